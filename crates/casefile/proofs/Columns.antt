@@ -66,3 +66,14 @@ after-write xs ys w b n long is =
 -- at most eight columns stand before the last
 pub eight-columns : (x w : ℕ) → w ≤ 8 → x < 10 ^ w → x < 100000000
 eight-columns x w le lt = omega (arith, pow-le-pow-right {n = 10} (omega arith) {i = w} {j = 8} le)
+
+pub length-fieldOf : (w n : ℕ) → 0 < w → length (fieldOf w n) ≡ w
+length-fieldOf w n some = length-push (front (w - 1) (n / 10)) (digit n) ∙ ap (λ (k : ℕ). k + 1) (length-front (w - 1) (n / 10)) ∙ omega arith
+
+-- numbers that fit are told from their fields
+pub fieldOf-same : (w m n : ℕ) → 0 < w → m < 10 ^ w → n < 10 ^ w → fieldOf w m ≡ fieldOf w n → m ≡ n
+fieldOf-same w m n some p q e =
+    let power : 10 ^ w ≡ 10 ^ (w - 1) * 10 = ap (λ (k : ℕ). 10 ^ k) (let k : w ≡ suc (w - 1) = omega arith in k) ∙ pow-suc 10 (w - 1) in
+    let parts = same-from-push (front (w - 1) (m / 10)) (front (w - 1) (n / 10)) (digit m) (digit n) e in
+    let tens = front-same (w - 1) (m / 10) (n / 10) (omega arith) (omega arith) (parts .0) in
+    omega (arith, parts .1)

@@ -1,1 +1,5 @@
 pub mod Fields
+pub mod Layout
+pub mod Records
+pub mod Questions
+pub mod Lines

@@ -1,5 +1,14 @@
 // The text of case files: what a line says, how it is written, and which fault a text has first.
-mod number;
 mod digits;
+mod fault;
+mod layout;
+mod line;
+mod number;
 
+pub use fault::FieldFault;
+pub use fault::LineFault;
+pub use layout::Letter;
+pub use line::Field;
+pub use line::Line;
+pub use line::Record;
 pub use number::Number;

@@ -29,6 +29,14 @@ impl<const W: usize> Number<W> {
         Some(Number { value })
     }
 
+    // The number, where it is known to fit.
+    pub(crate) fn within(value: u32) -> Self
+        requires { ⌜ 0 < W ⌝ ∗ ⌜ W ≤ 9 ⌝ ∗ ⌜ value < 10 ^ W ⌝ }
+        ensures { λ r. ⌜ r .value ≡ value ⌝ }
+    {
+        Number { value }
+    }
+
     pub fn value(self) -> u32
         ensures { λ r. ⌜ r ≡ self .entry .value ⌝ }
     {

@@ -45,6 +45,10 @@ fields l = fieldsFrom 2 (widths l)
 abbrev pub Begins : List ℕ → Letter → Type 0
 Begins t l = getD t 0 0 ≡ byteOf l
 
+-- the text is as long as a line with that letter
+abbrev pub RightLength : List ℕ → Letter → Type 0
+RightLength t l = length t ≡ long (widths l)
+
 -- a space stands in column c
 abbrev pub SpaceAt : List ℕ → ℕ → Type 0
 SpaceAt t c = getD t (c - 1) 0 ≡ 32

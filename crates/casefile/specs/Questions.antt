@@ -4,17 +4,13 @@ use mathlib.Core.List.{List, [], _∷_}
 use mathlib.Core.Logic.{_⊎_}
 use Prim.Native.Nat.{ℕ, _+_, min}
 use lib.ListN.{length}
+use Rattle.std.specs.shelf.Lists.{All}
 use Rattle.casefile.specs.declared.fault.LineFault.{LineFault}
 use Rattle.casefile.specs.declared.fault.LineFault.the-variants.{NoNewline, NoLetter, WrongLength, NoSpace, BadField}
 use Rattle.casefile.specs.declared.layout.Letter.{Letter}
 use Rattle.casefile.specs.declared.number.Number.{Number}
 use Rattle.casefile.specs.Fields.{fieldOf}
-use Rattle.casefile.specs.Layout.{widths, long, spaces, fields, Begins, SpaceAt, partAt}
-
--- every one of xs is good
-abbrev pub AllGood : {X : Type 0} → (X → Type 0) → List X → Type 0
-AllGood G [] = Unit {0}
-AllGood G (x ∷ xs) = G x × AllGood G xs
+use Rattle.casefile.specs.Layout.{widths, long, spaces, fields, Begins, RightLength, SpaceAt, partAt}
 
 -- bad is the first of xs that is not good
 abbrev pub FirstBad : {X : Type 0} → (X → Type 0) → List X → X → Type 0
@@ -25,13 +21,10 @@ FirstBad G (x ∷ xs) bad = ((G x → ⊥) × (bad ≡ x)) ⊎ (G x × FirstBad 
 abbrev pub WellFormed : ℕ → List ℕ → Type 0
 WellFormed w t = (n : Number w) × (t ≡ fieldOf w (n .value))
 
-abbrev pub RightLength : List ℕ → Letter → Type 0
-RightLength t l = length t ≡ long (widths l)
-
 -- what each fault says of a line's bytes: every question before its own has a yes, and its own a no in that column
 abbrev pub Fails : List ℕ → LineFault → Type 0
 Fails t NoNewline = ⊥
 Fails t NoLetter = (l : Letter) → Begins t l → ⊥
-Fails t (WrongLength c) = (l : Letter) × Begins t l × (RightLength t l → ⊥) × (c .value ≡ min (length t) (long (widths l)) + 1)
-Fails t (NoSpace c) = (l : Letter) × Begins t l × RightLength t l × FirstBad (SpaceAt t) (spaces l) (c .value)
-Fails t (BadField f) = (l : Letter) × Begins t l × RightLength t l × AllGood (SpaceAt t) (spaces l) × ((w : ℕ) × FirstBad (λ p. WellFormed (p .1) (partAt t p)) (fields l) (f .column .value, w))
+Fails t (WrongLength c) = (l : Letter) × Begins t l × (RightLength t l → ⊥) × (c ≡ min (length t) (long (widths l)) + 1)
+Fails t (NoSpace c) = (l : Letter) × Begins t l × RightLength t l × FirstBad (SpaceAt t) (spaces l) c
+Fails t (BadField f) = (l : Letter) × Begins t l × RightLength t l × All (SpaceAt t) (spaces l) × ((w : ℕ) × FirstBad (λ p. WellFormed (p .1) (partAt t p)) (fields l) (f .column, w))

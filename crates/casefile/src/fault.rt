@@ -1,15 +1,11 @@
 // The faults of a text, a type for each layer.
 ghost use mathlib.Core.Path.{_≡_};
 ghost use Rattle.casefile.specs.declared.fault.LineFault.the-variants.{BadField};
-use super::layout::Column;
-use super::number::NumberDebug;
-use super::number::NumberEq;
-use super::number::NumberPartialEq;
 
 // A field that holds no right-justified number, by its first column.
 #[derive(Clone, Copy, PartialEq, Eq, Debug)]
 pub struct FieldFault {
-    pub column: Column,
+    pub column: usize,
 }
 
 // The first question that a line fails.
@@ -17,8 +13,8 @@ pub struct FieldFault {
 pub enum LineFault {
     NoNewline,
     NoLetter,
-    WrongLength { column: Column },
-    NoSpace { column: Column },
+    WrongLength { column: usize },
+    NoSpace { column: usize },
     BadField(FieldFault),
 }
 

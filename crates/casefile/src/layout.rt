@@ -2,7 +2,6 @@
 ghost use mathlib.Core.Path.{_≡_};
 ghost use Rattle.std.specs.Options.{Cases};
 ghost use Rattle.casefile.specs.Layout.{byteOf};
-use super::number::Number;
 
 // The most bytes of a text.
 pub const LIMIT: usize = 65_536;
@@ -17,17 +16,14 @@ pub const KIND: usize = 2;
 pub const PART: usize = 4;
 
 // The columns of fields; each stands behind one space.
-pub const ROW_AT: u32 = 3;
-pub const KIND_AT: u32 = 8;
-pub const LEFT_AT: u32 = 11;
-pub const RIGHT_AT: u32 = 16;
+pub const ROW_AT: usize = 3;
+pub const KIND_AT: usize = 8;
+pub const LEFT_AT: usize = 11;
+pub const RIGHT_AT: usize = 16;
 
 // The bytes of a line with a row only, and of a term's line.
 pub const SHORT: usize = 6;
 pub const LONG: usize = 19;
-
-// A column of a line, counted from 1.
-pub type Column = Number<2>;
 
 // The letters that a line begins with.
 #[derive(Clone, Copy, PartialEq, Eq, Debug)]

@@ -1,18 +1,30 @@
 // Lines and what they say.
 ghost use mathlib.Core.Path.{_≡_};
-ghost use Prim.Native.Nat.{ℕ, _+_, _<_, _≤_, _^_};
+ghost use mathlib.Core.List.{[], _∷_};
+ghost use Prim.Native.Nat.{ℕ, _+_, _<_, _≤_, _^_, min};
 ghost use lib.ListN.{length};
 ghost use Rattle.std.specs.Results.{Cases as ByOk};
+ghost use Rattle.std.specs.declared.result.Result.the-variants.{Ok};
 ghost use Rattle.casefile.specs.Fields.{fieldOf};
 ghost use Rattle.casefile.specs.Questions.{WellFormed, Fails};
-ghost use Rattle.casefile.specs.Lines.{Apart};
+ghost use Rattle.casefile.specs.Layout.{byteOf, widths, SpaceAt};
+ghost use Rattle.casefile.specs.Lines.{Apart, Says, FirstUnread, placed, placedAt};
+ghost use Rattle.casefile.specs.Records.{lineOf};
 use super::digits::read_number;
 use super::fault::FieldFault;
 use super::fault::LineFault;
-use super::layout::Column;
+use super::fault::LineFromField;
 use super::layout::KIND;
+use super::layout::KIND_AT;
+use super::layout::LEFT_AT;
+use super::layout::LONG;
+use super::layout::Letter;
 use super::layout::PART;
+use super::layout::RIGHT_AT;
 use super::layout::ROW;
+use super::layout::ROW_AT;
+use super::layout::SHORT;
+use super::layout::SPACE;
 use super::number::Number;
 use super::number::NumberDebug;
 use super::number::NumberEq;
@@ -23,7 +35,7 @@ use super::number::WIDEST;
 #[derive(Clone, Copy)]
 pub struct Field<'a> {
     pub text: &'a [u8],
-    pub column: Column,
+    pub column: usize,
 }
 
 // A line taken apart: its letter, and the fields behind it.
@@ -58,4 +70,122 @@ impl Field<'_> {
         };
         Ok(Number::within(value))
     }
+}
+
+// The fault of a line that is `len` bytes long in place of `right`: its first missing or first surplus column.
+fn wrong_length(len: usize, right: usize) -> LineFault
+    requires { ⌜ right ≤ 19 ⌝ }
+    ensures { λ r. ⌜ r ≡ LineFault.WrongLength (min len right + 1) ⌝ }
+{
+    LineFault::WrongLength { column: len.min(right) + 1 }
+}
+
+// The row of a line that has no other field, from what stands behind its letter.
+fn cut_row<'a>(head: Letter, rest: &'a [u8]) -> Result<Field<'a>, LineFault>
+    requires { ⌜ widths head ≡ 4 ∷ [] ⌝ }
+    ensures { λ r. ⌜ ByOk r (λ f. (length (now (rest .entry)) ≡ 5) × SpaceAt (byteOf head ∷ now (rest .entry)) 2 × (placed 4 f ≡ placedAt (byteOf head ∷ now (rest .entry)) (3, 4))) (λ e. Fails (byteOf head ∷ now (rest .entry)) e) ⌝ }
+{
+    if rest.len() != SHORT - 1 {
+        return Err(wrong_length(rest.len() + 1, SHORT));
+    }
+    let [SPACE, row @ ..] = rest else {
+        return Err(LineFault::NoSpace { column: ROW_AT - 1 });
+    };
+    Ok(Field { text: row, column: ROW_AT })
+}
+
+// The four fields of a term's line, from what stands behind its letter.
+fn cut_term<'a>(rest: &'a [u8]) -> Result<Line<'a>, LineFault>
+    ensures { λ r. ⌜ ByOk r (λ line. Apart (84 ∷ now (rest .entry)) line) (λ e. Fails (84 ∷ now (rest .entry)) e) ⌝ }
+{
+    if rest.len() != LONG - 1 {
+        return Err(wrong_length(rest.len() + 1, LONG));
+    }
+    let [SPACE, rest @ ..] = rest else {
+        return Err(LineFault::NoSpace { column: ROW_AT - 1 });
+    };
+    let (row, rest) = rest.split_at(ROW);
+    let [SPACE, rest @ ..] = rest else {
+        return Err(LineFault::NoSpace { column: KIND_AT - 1 });
+    };
+    let (kind, rest) = rest.split_at(KIND);
+    let [SPACE, rest @ ..] = rest else {
+        return Err(LineFault::NoSpace { column: LEFT_AT - 1 });
+    };
+    let (left, rest) = rest.split_at(PART);
+    let [SPACE, right @ ..] = rest else {
+        return Err(LineFault::NoSpace { column: RIGHT_AT - 1 });
+    };
+    Ok(Line::Term {
+        row: Field { text: row, column: ROW_AT },
+        kind: Field { text: kind, column: KIND_AT },
+        left: Field { text: left, column: LEFT_AT },
+        right: Field { text: right, column: RIGHT_AT },
+    })
+}
+
+impl<'a> Line<'a> {
+    // Takes a line apart by its letter, length and spaces.
+    pub fn cut(text: &'a [u8]) -> Result<Line<'a>, LineFault>
+        ensures { λ r. ⌜ ByOk r (λ line. Apart (now (text .entry)) line) (λ e. Fails (now (text .entry)) e) ⌝ }
+    {
+        let [head, rest @ ..] = text else {
+            return Err(LineFault::NoLetter);
+        };
+        let Some(letter) = Letter::of(*head) else {
+            return Err(LineFault::NoLetter);
+        };
+        match letter {
+            Letter::Term => cut_term(rest),
+            Letter::Given => {
+                let row = cut_row(letter, rest)?;
+                Ok(Line::Given { row })
+            }
+            Letter::Ask => {
+                let row = cut_row(letter, rest)?;
+                Ok(Line::Ask { row })
+            }
+            Letter::Show => {
+                let row = cut_row(letter, rest)?;
+                Ok(Line::Show { row })
+            }
+        }
+    }
+
+    // What the line says, or its first field that is no number of its width.
+    pub fn record(&self) -> Result<Record, FieldFault>
+        ensures { λ r. ⌜ ByOk r (λ said. Says (now (self .entry)) said) (λ e. FirstUnread (now (self .entry)) (e .column)) ⌝ }
+    {
+        match self {
+            Line::Term { row, kind, left, right } => {
+                let row = row.number()?;
+                let kind = kind.number()?;
+                let left = left.number()?;
+                let right = right.number()?;
+                Ok(Record::Term { row, kind, left, right })
+            }
+            Line::Given { row } => {
+                let row = row.number()?;
+                Ok(Record::Given { row })
+            }
+            Line::Ask { row } => {
+                let row = row.number()?;
+                Ok(Record::Ask { row })
+            }
+            Line::Show { row } => {
+                let row = row.number()?;
+                Ok(Record::Show { row })
+            }
+        }
+    }
+}
+
+// What a line says, or the first question that it fails.
+pub fn read_line(text: &[u8]) -> Result<Record, LineFault>
+    ensures answer { λ r. ⌜ ByOk r (λ said. now (text .entry) ≡ lineOf said) (λ e. Fails (now (text .entry)) e) ⌝ }
+    ensures back { λ r. ⌜ ((said : Record) → now (text .entry) ≡ lineOf said → r ≡ Ok said) ⌝ }
+{
+    let line = Line::cut(text)?;
+    let said = line.record()?;
+    Ok(said)
 }

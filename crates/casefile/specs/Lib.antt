@@ -3,3 +3,4 @@ pub mod Layout
 pub mod Records
 pub mod Questions
 pub mod Lines
+pub mod Put

@@ -4,6 +4,7 @@ mod fault;
 mod layout;
 mod line;
 mod number;
+mod put;
 
 pub use fault::FieldFault;
 pub use fault::LineFault;
@@ -12,3 +13,4 @@ pub use line::Field;
 pub use line::Line;
 pub use line::Record;
 pub use number::Number;
+pub use put::TooShort;

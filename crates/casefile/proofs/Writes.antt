@@ -1,0 +1,71 @@
+-- What stands in lent bytes after parts of them are written. Assumes nothing.
+use mathlib.Core.Path.{_≡_, refl, sym, ap, subst, _∙_}
+use mathlib.Core.List.{List, [], _∷_, _++_, append-nil, append-assoc}
+use Prim.Native.Nat.{ℕ, _+_, _-_, _<_, _≤_}
+use native.Mathlib.Omega.{arith}
+use lib.ListN.{length, take, drop, getD, set, length-append, length-take, length-drop, length-set}
+use borrow.Rule.Slice.PartMut.{putMid}
+use Rattle.std.proofs.shelf.Lists.{drop-all, drop-drop, drop-set-lt, nil-from-length}
+use Rattle.std.proofs.shelf.Parts.{take-putMid, first-rest}
+use Rattle.casefile.specs.declared.put.Slot.{Slot}
+use Rattle.casefile.specs.Fields.{fieldOf}
+use Rattle.casefile.specs.Put.{Spans, slotted}
+use Rattle.casefile.proofs.Columns.{length-fieldOf}
+
+front-set : (xs : List ℕ) (b : ℕ) → 0 < length xs → take 1 (set xs 0 b) ≡ b ∷ []
+front-set [] b some = absurd (omega arith)
+front-set (x ∷ xs) b some = refl
+
+-- a byte, then a part, then all the rest
+pub wrote : (xs ys zs : List ℕ) (w k b : ℕ) → 0 < length xs → length ys ≡ w → putMid (w + 1) (length (putMid 1 k (set xs 0 b) ys) - (w + 1)) (putMid 1 k (set xs 0 b) ys) zs ≡ b ∷ (ys ++ zs)
+wrote xs ys zs w k b some long =
+    let all = putMid 1 k (set xs 0 b) ys in
+    let front = take-putMid 1 k (set xs 0 b) ys (w + 1) (omega arith) (simp length-set (omega arith)) ∙ ap (λ l. l ++ ys) (front-set xs b some) in
+    let back : drop (length all - (w + 1)) (drop (w + 1) all) ≡ [] = drop-all (length all - (w + 1)) (drop (w + 1) all) (simp length-drop (omega arith)) in
+    ap (λ l. l ++ (zs ++ drop (length all - (w + 1)) (drop (w + 1) all))) front ∙ ap (λ l. (b ∷ ys) ++ l) (ap (λ l. zs ++ l) back ∙ append-nil zs)
+
+-- how much is left for the rest
+pub left-over : (xs ys : List ℕ) (w m b : ℕ) → length xs ≡ 1 + w + m → length ys ≡ w → length (take (length (putMid 1 (w + 1 - 1) (set xs 0 b) ys) - (w + 1)) (drop (w + 1) (putMid 1 (w + 1 - 1) (set xs 0 b) ys))) ≡ m
+left-over xs ys w m b long is = simp (length-take, length-drop, length-append, length-set) (omega arith)
+
+-- the first of some slots, and the others, as a slice pattern leaves them
+module _ (ss : List Slot) (some : 0 < length ss) where
+  abbrev first : Slot
+  first = getD ss 0 (record { width = 0; number = 0 })
+
+  abbrev others : List Slot
+  others = take (length ss - 1) (drop 1 ss)
+
+  spans : (n : ℕ) → Spans ss n → Spans (first ∷ others) n
+  spans n h = subst (λ l. Spans l n) (first-rest ss _ some) h
+
+  as-wide : (xs : List ℕ) → Spans ss (length xs) → length (take (first .width + 1 - 1) (drop 1 (set xs 0 32))) ≡ first .width
+  as-wide xs h =
+      let parts = spans (length xs) h in
+      simp (length-take, length-drop, length-set) (omega (arith, parts .1))
+
+  pub others-span : (xs ys : List ℕ) → Spans ss (length xs) → ys ≡ fieldOf (length (take (first .width + 1 - 1) (drop 1 (set xs 0 32)))) (first .number) → Spans others (length (take (length (putMid 1 (first .width + 1 - 1) (set xs 0 32) ys) - (first .width + 1)) (drop (first .width + 1) (putMid 1 (first .width + 1 - 1) (set xs 0 32) ys))))
+  others-span xs ys h is =
+      let parts = spans (length xs) h in
+      let long = ap length is ∙ length-fieldOf _ (first .number) (rw (as-wide xs h) (parts .2)) ∙ as-wide xs h in
+      subst (Spans others) (sym (left-over xs ys (first .width) (parts .0) 32 (parts .1) long)) (parts .3)
+
+  pub slots-written : (xs ys zs : List ℕ) → Spans ss (length xs) → ys ≡ fieldOf (length (take (first .width + 1 - 1) (drop 1 (set xs 0 32)))) (first .number) → zs ≡ slotted others → putMid (first .width + 1) (length (putMid 1 (first .width + 1 - 1) (set xs 0 32) ys) - (first .width + 1)) (putMid 1 (first .width + 1 - 1) (set xs 0 32) ys) zs ≡ slotted ss
+  slots-written xs ys zs h is rest =
+      let parts = spans (length xs) h in
+      let wide = as-wide xs h in
+      let long = ap length is ∙ length-fieldOf _ (first .number) (rw wide (parts .2)) ∙ wide in
+      wrote xs ys zs (first .width) (first .width + 1 - 1) 32 (omega (arith, parts .1)) long
+      ∙ ap (λ l. 32 ∷ (l ++ zs)) (is ∙ ap (λ (w : ℕ). fieldOf w (first .number)) wide)
+      ∙ ap (λ l. 32 ∷ (fieldOf (first .width) (first .number) ++ l)) rest
+      ∙ ap slotted (sym (first-rest ss _ some))
+
+pub no-slots : (xs : List ℕ) (ss : List Slot) → length ss < 1 → Spans ss (length xs) → xs ≡ slotted ss
+no-slots xs [] none h = nil-from-length xs h
+no-slots xs (s ∷ ss) none h = absurd (omega arith)
+
+-- a byte, then a part, and what stood behind it
+pub line-written : (xs ys : List ℕ) (b long : ℕ) → 0 < long → long ≤ length xs → putMid 1 (long - 1) (set xs 0 b) ys ≡ b ∷ (ys ++ drop long xs)
+line-written xs ys b long some within =
+    let back = ap (drop (long - 1)) (drop-set-lt 1 xs 0 b (omega arith)) ∙ drop-drop (long - 1) 1 xs ∙ ap (λ (k : ℕ). drop k xs) (let k : 1 + (long - 1) ≡ long = omega arith in k) in
+    ap (λ l. l ++ (ys ++ drop (long - 1) (drop 1 (set xs 0 b)))) (front-set xs b (omega arith)) ∙ ap (λ l. b ∷ (ys ++ l)) back

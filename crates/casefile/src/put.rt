@@ -1,0 +1,57 @@
+// Written lines: a letter, then numbers in their columns, each behind one space.
+ghost use mathlib.Core.Path.{_≡_};
+ghost use mathlib.Core.List.{_∷_, _++_};
+ghost use Prim.Native.Nat.{ℕ, _+_, _<_, _≤_};
+ghost use lib.ListN.{length, drop};
+ghost use Rattle.std.specs.Results.{Cases};
+ghost use Rattle.casefile.specs.Put.{Spans, slotted};
+use super::digits::put_number;
+use super::layout::SPACE;
+use super::number::Number;
+
+// A number and the columns that it is written in.
+#[derive(Clone, Copy)]
+pub(crate) struct Slot {
+    width: usize,
+    number: u32,
+}
+
+impl<const W: usize> Number<W> {
+    pub(crate) fn slot(self) -> Slot
+        ensures { λ r. ⌜ r .width ≡ W ⌝ ∗ ⌜ r .number ≡ self .entry .value ⌝ }
+    {
+        Slot { width: W, number: self.value() }
+    }
+}
+
+// Too few bytes are lent for what is to be written.
+#[derive(Clone, Copy, PartialEq, Eq, Debug)]
+pub struct TooShort {
+    pub needed: usize,
+}
+
+fn put_slots(out: &mut [u8], slots: &[Slot])
+    requires { ⌜ Spans (now slots) (length (now out)) ⌝ }
+    ensures { λ _. ⌜ now (out .exit) ≡ slotted (now (slots .entry)) ⌝ }
+{
+    let [slot, more @ ..] = slots else {
+        return;
+    };
+    let end = slot.width + 1;
+    out[0] = SPACE;
+    put_number(&mut out[1..end], slot.number);
+    put_slots(&mut out[end..], more);
+}
+
+// Writes a line of `long` bytes to the front of `out`.
+pub(crate) fn put_line(out: &mut [u8], letter: u8, slots: &[Slot], long: usize) -> Result<usize, TooShort>
+    requires { ⌜ ((n : ℕ) × (long ≡ 1 + n) × Spans (now slots) n) ⌝ }
+    ensures { λ r. ⌜ Cases r (λ n. (n ≡ long) × (now (out .exit) ≡ (letter ∷ slotted (now (slots .entry))) ++ drop long (now (out .entry)))) (λ e. (length (now (out .entry)) < long) × (e .needed ≡ long) × (now (out .exit) ≡ now (out .entry))) ⌝ }
+{
+    if out.len() < long {
+        return Err(TooShort { needed: long });
+    }
+    out[0] = letter;
+    put_slots(&mut out[1..long], slots);
+    Ok(long)
+}

@@ -17,7 +17,7 @@ use Rattle.std.proofs.shelf.Lists.{nil-from-length, drop-more, drop-drop}
 use Rattle.std.proofs.shelf.Tests.{eq-eqb}
 use Rattle.casefile.specs.declared.fault.FieldFault.{FieldFault}
 use Rattle.casefile.specs.declared.fault.LineFault.{LineFault}
-use Rattle.casefile.specs.declared.fault.LineFault.the-variants.{NoNewline, NoLetter, WrongLength, NoSpace, BadField}
+use Rattle.casefile.specs.declared.fault.LineFault.the-variants.{NoLetter, WrongLength, NoSpace, BadField}
 use Rattle.casefile.specs.declared.layout.Letter.{Letter}
 use Rattle.casefile.specs.declared.layout.Letter.the-variants as letters
 use Rattle.casefile.specs.declared.line.Line.{Line}
@@ -76,7 +76,6 @@ formed-line (Ask row) = ((row, refl), tt)
 formed-line (Show row) = ((row, refl), tt)
 
 pub never-fails : (r : Record) (e : LineFault) → Fails (lineOf r) e → ⊥
-never-fails r NoNewline h = h
 never-fails r NoLetter h = h (letterOf r) refl
 never-fails r (WrongLength c) h = h .2 (subst (RightLength (lineOf r)) (letter-same _ _ (h .1)) (right-line r))
 never-fails r (NoSpace c) h = none-bad _ _ c (subst (λ l. All (SpaceAt (lineOf r)) (spaces l)) (letter-same _ _ (h .1)) (spaced-line r)) (h .3)

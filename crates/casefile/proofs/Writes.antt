@@ -1,11 +1,12 @@
 -- What stands in lent bytes after parts of them are written. Assumes nothing.
 use mathlib.Core.Path.{_≡_, refl, sym, ap, subst, _∙_}
 use mathlib.Core.List.{List, [], _∷_, _++_, append-nil, append-assoc}
-use Prim.Native.Nat.{ℕ, _+_, _-_, _<_, _≤_}
+use Prim.Native.Nat.{ℕ, suc, _+_, _-_, _<_, _≤_}
+use native.Mathlib.Nat.{sub-zero}
 use native.Mathlib.Omega.{arith}
 use lib.ListN.{length, take, drop, getD, set, length-append, length-take, length-drop, length-set}
-use borrow.Rule.Slice.PartMut.{putMid}
-use Rattle.std.proofs.shelf.Lists.{drop-all, drop-drop, drop-set-lt, nil-from-length}
+use borrow.Rule.Slice.PartMut.{putMid, postOf}
+use Rattle.std.proofs.shelf.Lists.{drop-all, drop-set, nil-from-length}
 use Rattle.std.proofs.shelf.Parts.{take-putMid, first-rest}
 use Rattle.casefile.specs.declared.put.Slot.{Slot}
 use Rattle.casefile.specs.Fields.{fieldOf}
@@ -64,8 +65,19 @@ pub no-slots : (xs : List ℕ) (ss : List Slot) → length ss < 1 → Spans ss (
 no-slots xs [] none h = nil-from-length xs h
 no-slots xs (s ∷ ss) none h = absurd (omega arith)
 
--- a byte, then a part, and what stood behind it
-pub line-written : (xs ys : List ℕ) (b long : ℕ) → 0 < long → long ≤ length xs → putMid 1 (long - 1) (set xs 0 b) ys ≡ b ∷ (ys ++ drop long xs)
-line-written xs ys b long some within =
-    let back = ap (drop (long - 1)) (drop-set-lt 1 xs 0 b (omega arith)) ∙ drop-drop (long - 1) 1 xs ∙ ap (λ (k : ℕ). drop k xs) (let k : 1 + (long - 1) ≡ long = omega arith in k) in
-    ap (λ l. l ++ (ys ++ drop (long - 1) (drop 1 (set xs 0 b)))) (front-set xs b (omega arith)) ∙ ap (λ l. b ∷ (ys ++ l)) back
+-- a byte, then the rest
+pub filled : (xs ys : List ℕ) (b : ℕ) → 0 < length xs → putMid 1 (length (set xs 0 b) - 1) (set xs 0 b) ys ≡ b ∷ ys
+filled xs ys b some =
+    let back : drop (length (set xs 0 b) - 1) (drop 1 (set xs 0 b)) ≡ [] = drop-all (length (set xs 0 b) - 1) (drop 1 (set xs 0 b)) (simp length-drop (omega arith)) in
+    ap (λ l. l ++ (ys ++ drop (length (set xs 0 b) - 1) (drop 1 (set xs 0 b)))) (front-set xs b some) ∙ ap (λ l. b ∷ l) (ap (λ l. ys ++ l) back ∙ append-nil ys)
+
+-- the front, behind which a byte was written before
+pub ended : (xs ys line : List ℕ) (long b : ℕ) → long < length xs → ys ≡ line → ys ++ postOf 0 (long - 0) (set xs long b) ≡ (line ++ (b ∷ [])) ++ drop (long + 1) xs
+ended xs ys line long b within is =
+    rw (sub-zero long, is) (ap (λ l. line ++ l) (drop-set xs long b within) ∙ sym (append-assoc line (b ∷ []) (drop (long + 1) xs)))
+
+pub length-slotted : (ss : List Slot) (n : ℕ) → Spans ss n → length (slotted ss) ≡ n
+length-slotted [] n h = sym h
+length-slotted (s ∷ ss) n h =
+    ap suc (length-append (fieldOf (s .width) (s .number)) (slotted ss))
+    ∙ omega (arith, length-fieldOf (s .width) (s .number) (h .2), length-slotted ss (h .0) (h .3), h .1)

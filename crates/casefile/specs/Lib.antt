@@ -4,3 +4,4 @@ pub mod Records
 pub mod Questions
 pub mod Lines
 pub mod Put
+pub mod Faults

@@ -1,15 +1,28 @@
--- Numbers written in columns, each behind one space.
-use mathlib.Core.List.{List, [], _∷_, map}
+-- Lines written into lent bytes.
+use mathlib.Core.List.{List, [], _∷_, _++_, map}
 use mathlib.Core.Path.{_≡_}
 use Prim.Native.Nat.{ℕ, _+_, _<_}
+use lib.ListN.{length, drop}
+use Rattle.std.specs.declared.result.Result.{Result}
+use Rattle.std.specs.declared.result.Result.the-variants.{Ok, Err}
 use Rattle.casefile.specs.declared.put.Slot.{Slot}
+use Rattle.casefile.specs.declared.put.TooShort.{TooShort}
 use Rattle.casefile.specs.Fields.{fieldOf}
 use Rattle.casefile.specs.Records.{spaced}
 
--- the columns of some numbers take n bytes, and each number has a column
+-- what a writer leaves: the bytes at the front and all others as they were, or, where too few are lent, the count needed and no change
+abbrev pub Wrote : List ℕ → List ℕ → List ℕ → Result ℕ TooShort → Type 0
+Wrote bytes before after (Ok n) = (n ≡ length bytes) × (after ≡ bytes ++ drop n before)
+Wrote bytes before after (Err e) = (length before < e .needed) × (e .needed ≡ length bytes) × (after ≡ before)
+
+abbrev pub slotOf : ℕ → ℕ → Slot
+slotOf w n = record { width = w; number = n }
+
+-- numbers in their columns, each behind one space
+abbrev pub slotted : List Slot → List ℕ
+slotted ss = spaced (map (λ s. fieldOf (s .width) (s .number)) ss)
+
+-- such columns take n bytes, and each number has one
 abbrev pub Spans : List Slot → ℕ → Type 0
 Spans [] n = n ≡ 0
 Spans (s ∷ ss) n = (m : ℕ) × (n ≡ 1 + s .width + m) × (0 < s .width) × Spans ss m
-
-abbrev pub slotted : List Slot → List ℕ
-slotted ss = spaced (map (λ s. fieldOf (s .width) (s .number)) ss)

@@ -6,7 +6,7 @@ use Prim.Native.Nat.{ℕ, _+_, min}
 use lib.ListN.{length}
 use Rattle.std.specs.shelf.Lists.{All}
 use Rattle.casefile.specs.declared.fault.LineFault.{LineFault}
-use Rattle.casefile.specs.declared.fault.LineFault.the-variants.{NoNewline, NoLetter, WrongLength, NoSpace, BadField}
+use Rattle.casefile.specs.declared.fault.LineFault.the-variants.{NoLetter, WrongLength, NoSpace, BadField}
 use Rattle.casefile.specs.declared.layout.Letter.{Letter}
 use Rattle.casefile.specs.declared.number.Number.{Number}
 use Rattle.casefile.specs.Fields.{fieldOf}
@@ -23,7 +23,6 @@ WellFormed w t = (n : Number w) × (t ≡ fieldOf w (n .value))
 
 -- what each fault says of a line's bytes: every question before its own has a yes, and its own a no in that column
 abbrev pub Fails : List ℕ → LineFault → Type 0
-Fails t NoNewline = ⊥
 Fails t NoLetter = (l : Letter) → Begins t l → ⊥
 Fails t (WrongLength c) = (l : Letter) × Begins t l × (RightLength t l → ⊥) × (c ≡ min (length t) (long (widths l)) + 1)
 Fails t (NoSpace c) = (l : Letter) × Begins t l × RightLength t l × FirstBad (SpaceAt t) (spaces l) c

@@ -1,6 +1,8 @@
-// The faults of a text, a type for each layer.
+// The faults of a text, a type for each layer, and the numbers that they are reported by.
 ghost use mathlib.Core.Path.{_≡_};
 ghost use Rattle.casefile.specs.declared.fault.LineFault.the-variants.{BadField};
+ghost use Rattle.casefile.specs.declared.fault.TextFault.the-variants.{Line as OfLine};
+ghost use Rattle.casefile.specs.Faults.{numberOf, columnOf, layerOf};
 
 // A field that holds no right-justified number, by its first column.
 #[derive(Clone, Copy, PartialEq, Eq, Debug)]
@@ -8,14 +10,21 @@ pub struct FieldFault {
     pub column: usize,
 }
 
-// The first question that a line fails.
+// The first question that a line fails, with its column where that varies.
 #[derive(Clone, Copy, PartialEq, Eq, Debug)]
 pub enum LineFault {
-    NoNewline,
     NoLetter,
     WrongLength { column: usize },
     NoSpace { column: usize },
     BadField(FieldFault),
+}
+
+// The first question that a text fails: of the whole, of the end of a line, or of a line's bytes.
+#[derive(Clone, Copy, PartialEq, Eq, Debug)]
+pub enum TextFault {
+    TooLong,
+    NoNewline,
+    Line(LineFault),
 }
 
 pub impl From<FieldFault> for LineFault as LineFromField {
@@ -23,5 +32,50 @@ pub impl From<FieldFault> for LineFault as LineFromField {
 
     fn from(fault: FieldFault) -> LineFault {
         LineFault::BadField(fault)
+    }
+}
+
+pub impl From<LineFault> for TextFault as TextFromLine {
+    ghost converts = { λ e r. r ≡ OfLine e };
+
+    fn from(fault: LineFault) -> TextFault {
+        TextFault::Line(fault)
+    }
+}
+
+impl TextFault {
+    // The number of the question.
+    pub fn number(&self) -> u8
+        ensures { λ r. ⌜ r ≡ numberOf (now (self .entry)) ⌝ }
+    {
+        match self {
+            TextFault::TooLong => 16,
+            TextFault::NoNewline => 15,
+            TextFault::Line(LineFault::NoLetter) => 10,
+            TextFault::Line(LineFault::WrongLength { .. }) => 11,
+            TextFault::Line(LineFault::NoSpace { .. }) => 12,
+            TextFault::Line(LineFault::BadField(_)) => 13,
+        }
+    }
+
+    // The column, 0 where no single column is at fault.
+    pub fn column(&self) -> usize
+        ensures { λ r. ⌜ r ≡ columnOf (now (self .entry)) ⌝ }
+    {
+        match self {
+            TextFault::TooLong => 0,
+            TextFault::NoNewline => 0,
+            TextFault::Line(LineFault::NoLetter) => 1,
+            TextFault::Line(LineFault::WrongLength { column }) => *column,
+            TextFault::Line(LineFault::NoSpace { column }) => *column,
+            TextFault::Line(LineFault::BadField(fault)) => fault.column,
+        }
+    }
+
+    // The layer that the question belongs to: the text.
+    pub fn layer(&self) -> u8
+        ensures { λ r. ⌜ r ≡ layerOf (now (self .entry)) ⌝ }
+    {
+        1
     }
 }

@@ -8,6 +8,7 @@ mod put;
 
 pub use fault::FieldFault;
 pub use fault::LineFault;
+pub use fault::TextFault;
 pub use layout::Letter;
 pub use line::Field;
 pub use line::Line;

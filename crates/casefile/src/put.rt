@@ -1,11 +1,11 @@
 // Written lines: a letter, then numbers in their columns, each behind one space.
 ghost use mathlib.Core.Path.{_≡_};
-ghost use mathlib.Core.List.{_∷_, _++_};
+ghost use mathlib.Core.List.{[], _∷_, _++_};
 ghost use Prim.Native.Nat.{ℕ, _+_, _<_, _≤_};
 ghost use lib.ListN.{length, drop};
-ghost use Rattle.std.specs.Results.{Cases};
-ghost use Rattle.casefile.specs.Put.{Spans, slotted};
+ghost use Rattle.casefile.specs.Put.{slotOf, Spans, slotted, Wrote};
 use super::digits::put_number;
+use super::layout::NEWLINE;
 use super::layout::SPACE;
 use super::number::Number;
 
@@ -18,7 +18,7 @@ pub(crate) struct Slot {
 
 impl<const W: usize> Number<W> {
     pub(crate) fn slot(self) -> Slot
-        ensures { λ r. ⌜ r .width ≡ W ⌝ ∗ ⌜ r .number ≡ self .entry .value ⌝ }
+        ensures { λ r. ⌜ r ≡ slotOf W (self .entry .value) ⌝ }
     {
         Slot { width: W, number: self.value() }
     }
@@ -43,15 +43,36 @@ fn put_slots(out: &mut [u8], slots: &[Slot])
     put_slots(&mut out[end..], more);
 }
 
+// Fills `out` with a line.
+fn fill_line(out: &mut [u8], letter: u8, slots: &[Slot])
+    requires { ⌜ ((n : ℕ) × (length (now out) ≡ 1 + n) × Spans (now slots) n) ⌝ }
+    ensures { λ _. ⌜ now (out .exit) ≡ letter ∷ slotted (now (slots .entry)) ⌝ }
+{
+    out[0] = letter;
+    put_slots(&mut out[1..], slots);
+}
+
 // Writes a line of `long` bytes to the front of `out`.
 pub(crate) fn put_line(out: &mut [u8], letter: u8, slots: &[Slot], long: usize) -> Result<usize, TooShort>
     requires { ⌜ ((n : ℕ) × (long ≡ 1 + n) × Spans (now slots) n) ⌝ }
-    ensures { λ r. ⌜ Cases r (λ n. (n ≡ long) × (now (out .exit) ≡ (letter ∷ slotted (now (slots .entry))) ++ drop long (now (out .entry)))) (λ e. (length (now (out .entry)) < long) × (e .needed ≡ long) × (now (out .exit) ≡ now (out .entry))) ⌝ }
+    ensures { λ r. ⌜ Wrote (letter ∷ slotted (now (slots .entry))) (now (out .entry)) (now (out .exit)) r ⌝ }
 {
     if out.len() < long {
         return Err(TooShort { needed: long });
     }
-    out[0] = letter;
-    put_slots(&mut out[1..long], slots);
+    fill_line(&mut out[0..long], letter, slots);
     Ok(long)
+}
+
+// Writes a line of `long` bytes and its newline to the front of `out`.
+pub(crate) fn put_ended(out: &mut [u8], letter: u8, slots: &[Slot], long: usize) -> Result<usize, TooShort>
+    requires { ⌜ long < 100 ⌝ ∗ ⌜ ((n : ℕ) × (long ≡ 1 + n) × Spans (now slots) n) ⌝ }
+    ensures { λ r. ⌜ Wrote ((letter ∷ slotted (now (slots .entry))) ++ (10 ∷ [])) (now (out .entry)) (now (out .exit)) r ⌝ }
+{
+    if out.len() <= long {
+        return Err(TooShort { needed: long + 1 });
+    }
+    out[long] = NEWLINE;
+    fill_line(&mut out[0..long], letter, slots);
+    Ok(long + 1)
 }

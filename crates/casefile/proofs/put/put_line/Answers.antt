@@ -1,13 +1,6 @@
-use mathlib.Core.Path.{refl, ap, _∙_}
-use mathlib.Core.List.{_∷_, _++_}
-use native.Mathlib.Omega.{arith}
-use lib.ListN.{drop}
-use Rattle.casefile.proofs.Writes.{line-written}
+use borrow.Author.Needs.{needs}
+use Rattle.casefile.proofs.Writes.{length-slotted}
 use Rattle.casefile.proofs.put.put_line.Needs as need
 
-pub returns : need.returns
-returns c = (
-  refl,
-  line-written (c .args .out .now) (c .put-slots .last .out) (c .args .letter) (c .args .long) (omega (arith, c .pre .1)) (omega arith)
-  ∙ ap (λ l. c .args .letter ∷ (l ++ drop (c .args .long) (c .args .out .now))) (c .put-slots .ensures),
-)
+pub returns-then-out-long : need.returns-then-out-long
+returns-then-out-long c = let span = length-slotted (c .args .slots .now) (c .pre .0) (c .pre .2) in search needs

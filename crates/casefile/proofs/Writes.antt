@@ -10,7 +10,7 @@ use Rattle.std.proofs.shelf.Lists.{drop-all, drop-set, nil-from-length}
 use Rattle.std.proofs.shelf.Parts.{take-putMid, first-rest}
 use Rattle.casefile.specs.declared.put.Slot.{Slot}
 use Rattle.casefile.specs.Fields.{fieldOf}
-use Rattle.casefile.specs.Put.{Spans, slotted}
+use Rattle.casefile.specs.Put.{slotted, spanOf, Wide}
 use Rattle.casefile.proofs.Columns.{length-fieldOf}
 
 front-set : (xs : List ℕ) (b : ℕ) → 0 < length xs → take 1 (set xs 0 b) ≡ b ∷ []
@@ -37,31 +37,31 @@ module _ (ss : List Slot) (some : 0 < length ss) where
   abbrev others : List Slot
   others = take (length ss - 1) (drop 1 ss)
 
-  spans : (n : ℕ) → Spans ss n → Spans (first ∷ others) n
-  spans n h = subst (λ l. Spans l n) (first-rest ss _ some) h
+  split : ss ≡ first ∷ others
+  split = first-rest ss _ some
 
-  as-wide : (xs : List ℕ) → Spans ss (length xs) → length (take (first .width + 1 - 1) (drop 1 (set xs 0 32))) ≡ first .width
-  as-wide xs h =
-      let parts = spans (length xs) h in
-      simp (length-take, length-drop, length-set) (omega (arith, parts .1))
+  as-wide : (xs : List ℕ) → length xs ≡ spanOf ss → length (take (first .width + 1 - 1) (drop 1 (set xs 0 32))) ≡ first .width
+  as-wide xs span =
+      let parts : length xs ≡ 1 + first .width + spanOf others = span ∙ ap spanOf split in
+      simp (length-take, length-drop, length-set) (omega arith)
 
-  pub others-span : (xs ys : List ℕ) → Spans ss (length xs) → ys ≡ fieldOf (length (take (first .width + 1 - 1) (drop 1 (set xs 0 32)))) (first .number) → Spans others (length (take (length (putMid 1 (first .width + 1 - 1) (set xs 0 32) ys) - (first .width + 1)) (drop (first .width + 1) (putMid 1 (first .width + 1 - 1) (set xs 0 32) ys))))
-  others-span xs ys h is =
-      let parts = spans (length xs) h in
-      let long = ap length is ∙ length-fieldOf _ (first .number) (rw (as-wide xs h) (parts .2)) ∙ as-wide xs h in
-      subst (Spans others) (sym (left-over xs ys (first .width) (parts .0) 32 (parts .1) long)) (parts .3)
+  pub others-wide : Wide ss → Wide others
+  others-wide wide = subst Wide split wide .1
 
-  pub slots-written : (xs ys zs : List ℕ) → Spans ss (length xs) → ys ≡ fieldOf (length (take (first .width + 1 - 1) (drop 1 (set xs 0 32)))) (first .number) → zs ≡ slotted others → putMid (first .width + 1) (length (putMid 1 (first .width + 1 - 1) (set xs 0 32) ys) - (first .width + 1)) (putMid 1 (first .width + 1 - 1) (set xs 0 32) ys) zs ≡ slotted ss
-  slots-written xs ys zs h is rest =
-      let parts = spans (length xs) h in
-      let wide = as-wide xs h in
-      let long = ap length is ∙ length-fieldOf _ (first .number) (rw wide (parts .2)) ∙ wide in
-      wrote xs ys zs (first .width) (first .width + 1 - 1) 32 (omega (arith, parts .1)) long
-      ∙ ap (λ l. 32 ∷ (l ++ zs)) (is ∙ ap (λ (w : ℕ). fieldOf w (first .number)) wide)
+  field-long : (xs ys : List ℕ) → length xs ≡ spanOf ss → Wide ss → ys ≡ fieldOf (length (take (first .width + 1 - 1) (drop 1 (set xs 0 32)))) (first .number) → length ys ≡ first .width
+  field-long xs ys span wide is = ap length is ∙ length-fieldOf _ (first .number) (rw (as-wide xs span) (subst Wide split wide .0)) ∙ as-wide xs span
+
+  pub others-span : (xs ys : List ℕ) → length xs ≡ spanOf ss → Wide ss → ys ≡ fieldOf (length (take (first .width + 1 - 1) (drop 1 (set xs 0 32)))) (first .number) → length (take (length (putMid 1 (first .width + 1 - 1) (set xs 0 32) ys) - (first .width + 1)) (drop (first .width + 1) (putMid 1 (first .width + 1 - 1) (set xs 0 32) ys))) ≡ spanOf others
+  others-span xs ys span wide is = left-over xs ys (first .width) (spanOf others) 32 (span ∙ ap spanOf split) (field-long xs ys span wide is)
+
+  pub slots-written : (xs ys zs : List ℕ) → length xs ≡ spanOf ss → Wide ss → ys ≡ fieldOf (length (take (first .width + 1 - 1) (drop 1 (set xs 0 32)))) (first .number) → zs ≡ slotted others → putMid (first .width + 1) (length (putMid 1 (first .width + 1 - 1) (set xs 0 32) ys) - (first .width + 1)) (putMid 1 (first .width + 1 - 1) (set xs 0 32) ys) zs ≡ slotted ss
+  slots-written xs ys zs span wide is rest =
+      wrote xs ys zs (first .width) (first .width + 1 - 1) 32 (omega (arith, ap spanOf split)) (field-long xs ys span wide is)
+      ∙ ap (λ l. 32 ∷ (l ++ zs)) (is ∙ ap (λ (w : ℕ). fieldOf w (first .number)) (as-wide xs span))
       ∙ ap (λ l. 32 ∷ (fieldOf (first .width) (first .number) ++ l)) rest
-      ∙ ap slotted (sym (first-rest ss _ some))
+      ∙ ap slotted (sym split)
 
-pub no-slots : (xs : List ℕ) (ss : List Slot) → length ss < 1 → Spans ss (length xs) → xs ≡ slotted ss
+pub no-slots : (xs : List ℕ) (ss : List Slot) → length ss < 1 → length xs ≡ spanOf ss → xs ≡ slotted ss
 no-slots xs [] none h = nil-from-length xs h
 no-slots xs (s ∷ ss) none h = absurd (omega arith)
 
@@ -76,8 +76,8 @@ pub ended : (xs ys line : List ℕ) (long b : ℕ) → long < length xs → ys �
 ended xs ys line long b within is =
     rw (sub-zero long, is) (ap (λ l. line ++ l) (drop-set xs long b within) ∙ sym (append-assoc line (b ∷ []) (drop (long + 1) xs)))
 
-pub length-slotted : (ss : List Slot) (n : ℕ) → Spans ss n → length (slotted ss) ≡ n
-length-slotted [] n h = sym h
-length-slotted (s ∷ ss) n h =
+pub length-slotted : (ss : List Slot) → Wide ss → length (slotted ss) ≡ spanOf ss
+length-slotted [] wide = refl
+length-slotted (s ∷ ss) wide =
     ap suc (length-append (fieldOf (s .width) (s .number)) (slotted ss))
-    ∙ omega (arith, length-fieldOf (s .width) (s .number) (h .2), length-slotted ss (h .0) (h .3), h .1)
+    ∙ omega (arith, length-fieldOf (s .width) (s .number) (wide .0), length-slotted ss (wide .1))

@@ -5,6 +5,7 @@ use Prim.Native.Nat.{ℕ, _+_, _<_}
 use lib.ListN.{length, drop}
 use Rattle.std.specs.declared.result.Result.{Result}
 use Rattle.std.specs.declared.result.Result.the-variants.{Ok, Err}
+use Rattle.std.specs.shelf.Lists.{All}
 use Rattle.casefile.specs.declared.put.Slot.{Slot}
 use Rattle.casefile.specs.declared.put.TooShort.{TooShort}
 use Rattle.casefile.specs.Fields.{fieldOf}
@@ -22,7 +23,11 @@ slotOf w n = record { width = w; number = n }
 abbrev pub slotted : List Slot → List ℕ
 slotted ss = spaced (map (λ s. fieldOf (s .width) (s .number)) ss)
 
--- such columns take n bytes, and each number has one
-abbrev pub Spans : List Slot → ℕ → Type 0
-Spans [] n = n ≡ 0
-Spans (s ∷ ss) n = (m : ℕ) × (n ≡ 1 + s .width + m) × (0 < s .width) × Spans ss m
+-- how many bytes such columns take
+abbrev pub spanOf : List Slot → ℕ
+spanOf [] = 0
+spanOf (s ∷ ss) = 1 + s .width + spanOf ss
+
+-- each number has a column
+abbrev pub Wide : List Slot → Type 0
+Wide ss = All (λ s. 0 < s .width) ss

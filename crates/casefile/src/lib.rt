@@ -5,6 +5,7 @@ mod layout;
 mod line;
 mod number;
 mod put;
+mod write;
 
 pub use fault::FieldFault;
 pub use fault::LineFault;

@@ -3,7 +3,7 @@ ghost use mathlib.Core.Path.{_≡_};
 ghost use mathlib.Core.List.{[], _∷_, _++_};
 ghost use Prim.Native.Nat.{ℕ, _+_, _<_, _≤_};
 ghost use lib.ListN.{length, drop};
-ghost use Rattle.casefile.specs.Put.{slotOf, Spans, slotted, Wrote};
+ghost use Rattle.casefile.specs.Put.{slotOf, slotted, spanOf, Wide, Wrote};
 use super::digits::put_number;
 use super::layout::NEWLINE;
 use super::layout::SPACE;
@@ -31,7 +31,7 @@ pub struct TooShort {
 }
 
 fn put_slots(out: &mut [u8], slots: &[Slot])
-    requires { ⌜ Spans (now slots) (length (now out)) ⌝ }
+    requires { ⌜ length (now out) ≡ spanOf (now slots) ⌝ ∗ ⌜ Wide (now slots) ⌝ }
     ensures { λ _. ⌜ now (out .exit) ≡ slotted (now (slots .entry)) ⌝ }
 {
     let [slot, more @ ..] = slots else {
@@ -45,7 +45,7 @@ fn put_slots(out: &mut [u8], slots: &[Slot])
 
 // Fills `out` with a line.
 fn fill_line(out: &mut [u8], letter: u8, slots: &[Slot])
-    requires { ⌜ ((n : ℕ) × (length (now out) ≡ 1 + n) × Spans (now slots) n) ⌝ }
+    requires { ⌜ length (now out) ≡ 1 + spanOf (now slots) ⌝ ∗ ⌜ Wide (now slots) ⌝ }
     ensures { λ _. ⌜ now (out .exit) ≡ letter ∷ slotted (now (slots .entry)) ⌝ }
 {
     out[0] = letter;
@@ -54,7 +54,7 @@ fn fill_line(out: &mut [u8], letter: u8, slots: &[Slot])
 
 // Writes a line of `long` bytes to the front of `out`.
 pub(crate) fn put_line(out: &mut [u8], letter: u8, slots: &[Slot], long: usize) -> Result<usize, TooShort>
-    requires { ⌜ ((n : ℕ) × (long ≡ 1 + n) × Spans (now slots) n) ⌝ }
+    requires { ⌜ long ≡ 1 + spanOf (now slots) ⌝ ∗ ⌜ Wide (now slots) ⌝ }
     ensures { λ r. ⌜ Wrote (letter ∷ slotted (now (slots .entry))) (now (out .entry)) (now (out .exit)) r ⌝ }
 {
     if out.len() < long {
@@ -66,7 +66,7 @@ pub(crate) fn put_line(out: &mut [u8], letter: u8, slots: &[Slot], long: usize) 
 
 // Writes a line of `long` bytes and its newline to the front of `out`.
 pub(crate) fn put_ended(out: &mut [u8], letter: u8, slots: &[Slot], long: usize) -> Result<usize, TooShort>
-    requires { ⌜ long < 100 ⌝ ∗ ⌜ ((n : ℕ) × (long ≡ 1 + n) × Spans (now slots) n) ⌝ }
+    requires { ⌜ long < 100 ⌝ ∗ ⌜ long ≡ 1 + spanOf (now slots) ⌝ ∗ ⌜ Wide (now slots) ⌝ }
     ensures { λ r. ⌜ Wrote ((letter ∷ slotted (now (slots .entry))) ++ (10 ∷ [])) (now (out .entry)) (now (out .exit)) r ⌝ }
 {
     if out.len() <= long {

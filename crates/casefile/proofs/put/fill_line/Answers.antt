@@ -5,4 +5,4 @@ use Rattle.casefile.proofs.Writes.{filled}
 use Rattle.casefile.proofs.put.fill_line.Needs as need
 
 pub returns : need.returns
-returns c = filled (c .args .out .now) (c .put-slots .last .out) (c .args .letter) (omega (arith, c .pre .1)) ∙ ap (λ l. c .args .letter ∷ l) (c .put-slots .ensures)
+returns c = filled (c .args .out .now) (c .put-slots .last .out) (c .args .letter) (omega (arith, c .pre .0)) ∙ ap (λ l. c .args .letter ∷ l) (c .put-slots .ensures)

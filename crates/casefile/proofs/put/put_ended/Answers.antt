@@ -9,10 +9,10 @@ use Rattle.casefile.proofs.put.put_ended.Needs as need
 
 pub returns-then-out-long : need.returns-then-out-long
 returns-then-out-long c =
-    let span = length-slotted (c .args .slots .now) (c .pre .1 .0) (c .pre .1 .2) in
-    (omega arith, omega (arith, length-append (slotted (c .args .slots .now)) (10 ∷ []), c .pre .1 .1), refl)
+    let span = length-slotted (c .args .slots .now) (c .pre .1 .1) in
+    (omega arith, omega (arith, length-append (slotted (c .args .slots .now)) (10 ∷ []), c .pre .1 .0), refl)
 
 pub returns : need.returns
 returns c =
-    let span = length-slotted (c .args .slots .now) (c .pre .1 .0) (c .pre .1 .2) in
-    (omega (arith, length-append (slotted (c .args .slots .now)) (10 ∷ []), c .pre .1 .1), ended (c .args .out .now) (c .fill-line .last .out) _ (c .args .long) 10 (omega arith) (c .fill-line .ensures))
+    let span = length-slotted (c .args .slots .now) (c .pre .1 .1) in
+    (omega (arith, length-append (slotted (c .args .slots .now)) (10 ∷ []), c .pre .1 .0), ended (c .args .out .now) (c .fill-line .last .out) _ (c .args .long) 10 (omega arith) (c .fill-line .ensures))

@@ -5,3 +5,4 @@ pub mod Questions
 pub mod Lines
 pub mod Put
 pub mod Faults
+pub mod Texts

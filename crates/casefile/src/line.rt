@@ -68,7 +68,7 @@ impl Field<'_> {
         let Some(value) = read_number(self.text) else {
             return Err(fault);
         };
-        Ok(Number::within(value))
+        Ok(Number { value })
     }
 }
 

@@ -9,7 +9,7 @@ pub const WIDEST: usize = 9;
 // A number that a field of `W` columns can hold, of one to nine columns.
 #[derive(Clone, Copy, PartialEq, Eq, Debug)]
 pub struct Number<const W: usize> {
-    value: u32,
+    pub value: u32,
     ghost some: { 0 < W },
     ghost few: { W ≤ 9 },
     ghost fits: { value < 10 ^ W },
@@ -27,19 +27,5 @@ impl<const W: usize> Number<W> {
             return None;
         }
         Some(Number { value })
-    }
-
-    // The number, where it is known to fit.
-    pub(crate) fn within(value: u32) -> Self
-        requires { ⌜ 0 < W ⌝ ∗ ⌜ W ≤ 9 ⌝ ∗ ⌜ value < 10 ^ W ⌝ }
-        ensures { λ r. ⌜ r .value ≡ value ⌝ }
-    {
-        Number { value }
-    }
-
-    pub fn value(self) -> u32
-        ensures { λ r. ⌜ r ≡ self .entry .value ⌝ }
-    {
-        self.value
     }
 }

@@ -20,7 +20,7 @@ impl<const W: usize> Number<W> {
     pub(crate) fn slot(self) -> Slot
         ensures { λ r. ⌜ r ≡ slotOf W (self .entry .value) ⌝ }
     {
-        Slot { width: W, number: self.value() }
+        Slot { width: W, number: self.value }
     }
 }
 

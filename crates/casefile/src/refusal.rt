@@ -1,0 +1,16 @@
+// A fault with the line that it is in.
+ghost use Prim.Native.Nat.{_<_};
+ghost use Rattle.casefile.specs.Faults.{columnOf};
+use super::fault::TextFault;
+use super::fault::TextFaultDebug;
+use super::fault::TextFaultEq;
+use super::fault::TextFaultPartialEq;
+
+// Why a text is refused, and in which line; 0 is the text as a whole. Line and column fit a printed fault line.
+#[derive(Clone, Copy, PartialEq, Eq, Debug)]
+pub struct Refusal {
+    pub line: usize,
+    pub fault: TextFault,
+    ghost few_lines: { line < 100000 },
+    ghost few_columns: { columnOf fault < 100 },
+}

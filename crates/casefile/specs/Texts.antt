@@ -55,11 +55,21 @@ pub record Adds (s : Summary) (r : Record) (s′ : Summary) : Type 0 where
   pub asks : s′ .asks ≡ s .asks + countOf Ask (r ∷ [])
   pub shows : s′ .shows ≡ s .shows + countOf Show (r ∷ [])
 
--- a text is refused in line n: the lines before it say records rs, and it has the fault
+-- the fault of a text's first line: no newline ends it, or its bytes fail a question
+abbrev pub FirstFault : List ℕ → TextFault → Type 0
+FirstFault t TooLong = ⊥
+FirstFault t NoNewline = OneLine t
+FirstFault t (Line f) = (line : List ℕ) × (after : List ℕ) × Cut t line after × Fails line f
+
+-- the first fault is in line n: the lines before it say records, and the rest begins with the line at fault
+abbrev pub InLine : List ℕ → ℕ → TextFault → Type 0
+InLine t n f = (length t ≤ limit) × ((rs : List Record) × (rest : List ℕ) × (t ≡ textOf rs ++ rest) × (n ≡ length rs + 1) × (0 < length rest) × FirstFault rest f)
+
+-- a text is refused for a fault in line n
 abbrev pub Refused : List ℕ → ℕ → TextFault → Type 0
 Refused t n TooLong = (limit < length t) × (n ≡ 0)
-Refused t n NoNewline = (length t ≤ limit) × ((rs : List Record) × (rest : List ℕ) × (t ≡ textOf rs ++ rest) × (n ≡ length rs + 1) × (0 < length rest) × OneLine rest)
-Refused t n (Line f) = (length t ≤ limit) × ((rs : List Record) × (rest : List ℕ) × (t ≡ textOf rs ++ rest) × (n ≡ length rs + 1) × ((line : List ℕ) × (after : List ℕ) × Cut rest line after × Fails line f))
+Refused t n NoNewline = InLine t n NoNewline
+Refused t n (Line f) = InLine t n (Line f)
 
 -- what checking a text answers: the records that its lines say, all of them, are counted, or the first fault is named
 abbrev pub Checked : List ℕ → Result Summary Refusal → Type 0

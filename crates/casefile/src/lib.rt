@@ -22,4 +22,6 @@ pub use number::Number;
 pub use put::TooShort;
 pub use refusal::Refusal;
 pub use summary::Summary;
+pub use text::check_text;
 pub use text::cut_line;
+pub use text::first_record;

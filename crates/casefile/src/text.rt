@@ -2,10 +2,13 @@
 ghost use mathlib.Core.Path.{_≡_};
 ghost use mathlib.Core.List.{List, [], _∷_, _++_};
 ghost use Prim.Native.Nat.{ℕ, _+_, _<_, _≤_};
-ghost use lib.ListN.{length};
+ghost use lib.ListN.{length, drop};
 ghost use Rattle.std.specs.Options.{Cases};
-ghost use Rattle.casefile.specs.Texts.{OneLine, Cut, Holds, Adds, Checked};
+ghost use Rattle.std.specs.Results.{Cases as ByOk};
+ghost use Rattle.casefile.specs.Records.{lineOf};
+ghost use Rattle.casefile.specs.Texts.{OneLine, Cut, FirstFault, Holds, Adds, Checked};
 use super::fault::TextFault;
+use super::fault::TextFromLine;
 use super::layout::LIMIT;
 use super::layout::NEWLINE;
 use super::line::Record;
@@ -52,4 +55,37 @@ pub fn cut_line(text: &[u8]) -> Option<(&[u8], &[u8])>
         }
     }
     None
+}
+
+// What the first line of a text says, with the bytes that the line and its newline take, or the line's fault.
+pub fn first_record(text: &[u8]) -> Result<(Record, usize), TextFault>
+    ensures { λ r. ⌜ ByOk r (λ p. (p .1 ≤ length (now (text .entry))) × (now (text .entry) ≡ lineOf (p .0) ++ 10 ∷ drop (p .1) (now (text .entry)))) (λ f. FirstFault (now (text .entry)) f) ⌝ }
+{
+    let Some((line, _)) = cut_line(text) else {
+        return Err(TextFault::NoNewline);
+    };
+    let said = read_line(line)?;
+    Ok((said, line.len() + 1))
+}
+
+// What a text holds, or its first fault and the line that has it.
+pub fn check_text(text: &[u8]) -> Result<Summary, Refusal>
+    ensures { λ r. ⌜ Checked (now (text .entry)) r ⌝ }
+{
+    if text.len() > LIMIT {
+        return Err(Refusal { line: 0, fault: TextFault::TooLong });
+    }
+    let mut held = Summary::new();
+    let mut rest = text;
+    while !rest.is_empty() {
+        match first_record(rest) {
+            Ok(first) => {
+                let (said, used) = first;
+                held = held.with(said);
+                rest = &rest[used..];
+            }
+            Err(fault) => return Err(Refusal { line: held.lines() + 1, fault }),
+        }
+    }
+    Ok(held)
 }

@@ -6,3 +6,4 @@ pub mod Lines
 pub mod Put
 pub mod Faults
 pub mod Texts
+pub mod Printed

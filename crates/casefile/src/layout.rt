@@ -21,6 +21,14 @@ pub const KIND_AT: usize = 8;
 pub const LEFT_AT: usize = 11;
 pub const RIGHT_AT: usize = 16;
 
+// The letters of a printed fault line and of a printed summary line, the width of a count of lines in them, and
+// how long they are without their newline.
+pub const FAULT: u8 = b'F';
+pub const COUNTS: u8 = b'C';
+pub const LINE: usize = 5;
+pub const FAULT_LONG: usize = 15;
+pub const COUNTS_LONG: usize = 25;
+
 // The bytes of a line with a row only, and of a term's line.
 pub const SHORT: usize = 6;
 pub const LONG: usize = 19;

@@ -1,12 +1,23 @@
-// What is written: a record's line.
+// What is written: a record's line, and the lines that the program prints.
+ghost use mathlib.Core.List.{[], _∷_, _++_};
+ghost use Rattle.casefile.specs.Printed.{refusalLine, summaryLine};
 ghost use Rattle.casefile.specs.Put.{Wrote};
 ghost use Rattle.casefile.specs.Records.{lineOf};
+use super::layout::FAULT;
+use super::layout::FAULT_LONG;
+use super::layout::COUNTS;
+use super::layout::COUNTS_LONG;
+use super::layout::LINE;
 use super::layout::LONG;
 use super::layout::Letter;
 use super::layout::SHORT;
 use super::line::Record;
+use super::number::Number;
 use super::put::TooShort;
+use super::put::put_ended;
 use super::put::put_line;
+use super::refusal::Refusal;
+use super::summary::Summary;
 
 impl Record {
     // Writes the record's one line to the front of `out`, without a newline, and tells its length.
@@ -22,5 +33,33 @@ impl Record {
             Record::Ask { row } => put_line(out, Letter::Ask.byte(), &[row.slot()], SHORT),
             Record::Show { row } => put_line(out, Letter::Show.byte(), &[row.slot()], SHORT),
         }
+    }
+}
+
+impl Refusal {
+    // Writes the fault line and its newline to the front of `out`, and tells their length.
+    pub fn print(&self, out: &mut [u8]) -> Result<usize, TooShort>
+        ensures { λ r. ⌜ Wrote (refusalLine (now (self .entry)) ++ 10 ∷ []) (now (out .entry)) (now (out .exit)) r ⌝ }
+    {
+        let line = Number::<LINE> { value: self.line as u32 };
+        let column = Number::<2> { value: self.fault.column() as u32 };
+        let layer = Number::<1> { value: u32::from(self.fault.layer()) };
+        let number = Number::<2> { value: u32::from(self.fault.number()) };
+        let slots = [line.slot(), column.slot(), layer.slot(), number.slot()];
+        put_ended(out, FAULT, &slots, FAULT_LONG)
+    }
+}
+
+impl Summary {
+    // Writes the summary line and its newline to the front of `out`, and tells their length.
+    pub fn print(&self, out: &mut [u8]) -> Result<usize, TooShort>
+        ensures { λ r. ⌜ Wrote (summaryLine (now (self .entry)) ++ 10 ∷ []) (now (out .entry)) (now (out .exit)) r ⌝ }
+    {
+        let terms = Number::<LINE> { value: self.terms as u32 };
+        let given = Number::<LINE> { value: self.given as u32 };
+        let asks = Number::<LINE> { value: self.asks as u32 };
+        let shows = Number::<LINE> { value: self.shows as u32 };
+        let slots = [terms.slot(), given.slot(), asks.slot(), shows.slot()];
+        put_ended(out, COUNTS, &slots, COUNTS_LONG)
     }
 }

@@ -59,9 +59,9 @@ module _ (f : ℕ → ℕ) (t : List ℕ) (w k : ℕ) (long : length t ≡ suc w
   )
 
 -- the last byte is written, then what stands before it
-pub after-write : (xs ys : List ℕ) (w b n : ℕ) → length xs ≡ suc w → ys ≡ front w n → ys ++ postOf 0 (w - 0) (set xs w b) ≡ front w n ++ (b ∷ [])
-after-write xs ys w b n long is =
-    rw (sub-zero w, is) (ap (λ l. front w n ++ l) (drop-set xs w b (omega arith) ∙ ap (λ l. b ∷ l) (drop-all (w + 1) xs (omega arith))))
+pub after-write : (xs ys zs : List ℕ) (w b : ℕ) → length xs ≡ suc w → ys ≡ zs → ys ++ postOf 0 (w - 0) (set xs w b) ≡ zs ++ (b ∷ [])
+after-write xs ys zs w b long is =
+    rw (sub-zero w, is) (ap (λ l. zs ++ l) (drop-set xs w b (omega arith) ∙ ap (λ l. b ∷ l) (drop-all (w + 1) xs (omega arith))))
 
 -- at most eight columns stand before the last
 pub eight-columns : (x w : ℕ) → w ≤ 8 → x < 10 ^ w → x < 100000000

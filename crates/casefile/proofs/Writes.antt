@@ -1,12 +1,11 @@
 -- What stands in lent bytes after parts of them are written. Assumes nothing.
 use mathlib.Core.Path.{_≡_, refl, sym, ap, subst, _∙_}
-use mathlib.Core.List.{List, [], _∷_, _++_, append-nil, append-assoc}
+use mathlib.Core.List.{List, [], _∷_, _++_, append-nil}
 use Prim.Native.Nat.{ℕ, suc, _+_, _-_, _<_, _≤_}
-use native.Mathlib.Nat.{sub-zero}
 use native.Mathlib.Omega.{arith}
 use lib.ListN.{length, take, drop, getD, set, length-append, length-take, length-drop, length-set}
-use borrow.Rule.Slice.PartMut.{putMid, postOf}
-use Rattle.std.proofs.shelf.Lists.{drop-all, drop-set, nil-from-length}
+use borrow.Rule.Slice.PartMut.{putMid}
+use Rattle.std.proofs.shelf.Lists.{drop-all, nil-from-length}
 use Rattle.std.proofs.shelf.Parts.{take-putMid, first-rest}
 use Rattle.casefile.specs.declared.put.Slot.{Slot}
 use Rattle.casefile.specs.Fields.{fieldOf}
@@ -70,11 +69,6 @@ pub filled : (xs ys : List ℕ) (b : ℕ) → 0 < length xs → putMid 1 (length
 filled xs ys b some =
     let back : drop (length (set xs 0 b) - 1) (drop 1 (set xs 0 b)) ≡ [] = drop-all (length (set xs 0 b) - 1) (drop 1 (set xs 0 b)) (simp length-drop (omega arith)) in
     ap (λ l. l ++ (ys ++ drop (length (set xs 0 b) - 1) (drop 1 (set xs 0 b)))) (front-set xs b some) ∙ ap (λ l. b ∷ l) (ap (λ l. ys ++ l) back ∙ append-nil ys)
-
--- the front, behind which a byte was written before
-pub ended : (xs ys line : List ℕ) (long b : ℕ) → long < length xs → ys ≡ line → ys ++ postOf 0 (long - 0) (set xs long b) ≡ (line ++ (b ∷ [])) ++ drop (long + 1) xs
-ended xs ys line long b within is =
-    rw (sub-zero long, is) (ap (λ l. line ++ l) (drop-set xs long b within) ∙ sym (append-assoc line (b ∷ []) (drop (long + 1) xs)))
 
 pub length-slotted : (ss : List Slot) → Wide ss → length (slotted ss) ≡ spanOf ss
 length-slotted [] wide = refl

@@ -22,12 +22,12 @@ pub const LEFT_AT: usize = 11;
 pub const RIGHT_AT: usize = 16;
 
 // The letters of a printed fault line and of a printed summary line, the width of a count of lines in them, and
-// how long they are without their newline.
+// how long they are with their newline.
 pub const FAULT: u8 = b'F';
 pub const COUNTS: u8 = b'C';
 pub const LINE: usize = 5;
-pub const FAULT_LONG: usize = 15;
-pub const COUNTS_LONG: usize = 25;
+pub const FAULT_LONG: usize = 16;
+pub const COUNTS_LONG: usize = 26;
 
 // The bytes of a line with a row only, and of a term's line.
 pub const SHORT: usize = 6;

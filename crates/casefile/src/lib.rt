@@ -13,6 +13,7 @@ mod write;
 pub use fault::FieldFault;
 pub use fault::LineFault;
 pub use fault::TextFault;
+pub use layout::LIMIT;
 pub use layout::Letter;
 pub use line::Field;
 pub use line::Line;

@@ -64,15 +64,12 @@ pub(crate) fn put_line(out: &mut [u8], letter: u8, slots: &[Slot], long: usize) 
     Ok(long)
 }
 
-// Writes a line of `long` bytes and its newline to the front of `out`.
-pub(crate) fn put_ended(out: &mut [u8], letter: u8, slots: &[Slot], long: usize) -> Result<usize, TooShort>
-    requires { ⌜ long < 100 ⌝ ∗ ⌜ long ≡ 1 + spanOf (now slots) ⌝ ∗ ⌜ Wide (now slots) ⌝ }
-    ensures { λ r. ⌜ Wrote ((letter ∷ slotted (now (slots .entry))) ++ (10 ∷ [])) (now (out .entry)) (now (out .exit)) r ⌝ }
+// Fills `out` with a line and its newline.
+pub(crate) fn fill_ended(out: &mut [u8], letter: u8, slots: &[Slot])
+    requires { ⌜ length (now out) ≡ 2 + spanOf (now slots) ⌝ ∗ ⌜ Wide (now slots) ⌝ }
+    ensures { λ _. ⌜ now (out .exit) ≡ (letter ∷ slotted (now (slots .entry))) ++ 10 ∷ [] ⌝ }
 {
-    if out.len() <= long {
-        return Err(TooShort { needed: long + 1 });
-    }
-    out[long] = NEWLINE;
-    fill_line(&mut out[0..long], letter, slots);
-    Ok(long + 1)
+    let end = out.len() - 1;
+    out[end] = NEWLINE;
+    fill_line(&mut out[0..end], letter, slots);
 }

@@ -1,5 +1,6 @@
 // What is written: a record's line, and the lines that the program prints.
 ghost use mathlib.Core.List.{[], _∷_, _++_};
+ghost use mathlib.Core.Path.{_≡_};
 ghost use Rattle.casefile.specs.Printed.{refusalLine, summaryLine};
 ghost use Rattle.casefile.specs.Put.{Wrote};
 ghost use Rattle.casefile.specs.Records.{lineOf};
@@ -14,7 +15,7 @@ use super::layout::SHORT;
 use super::line::Record;
 use super::number::Number;
 use super::put::TooShort;
-use super::put::put_ended;
+use super::put::fill_ended;
 use super::put::put_line;
 use super::refusal::Refusal;
 use super::summary::Summary;
@@ -37,29 +38,33 @@ impl Record {
 }
 
 impl Refusal {
-    // Writes the fault line and its newline to the front of `out`, and tells their length.
-    pub fn print(&self, out: &mut [u8]) -> Result<usize, TooShort>
-        ensures { λ r. ⌜ Wrote (refusalLine (now (self .entry)) ++ 10 ∷ []) (now (out .entry)) (now (out .exit)) r ⌝ }
+    // The fault line, with its newline.
+    pub fn printed(&self) -> [u8; FAULT_LONG]
+        ensures { λ r. ⌜ r ≡ refusalLine (now (self .entry)) ++ 10 ∷ [] ⌝ }
     {
         let line = Number::<LINE> { value: self.line as u32 };
         let column = Number::<2> { value: self.fault.column() as u32 };
         let layer = Number::<1> { value: u32::from(self.fault.layer()) };
         let number = Number::<2> { value: u32::from(self.fault.number()) };
         let slots = [line.slot(), column.slot(), layer.slot(), number.slot()];
-        put_ended(out, FAULT, &slots, FAULT_LONG)
+        let mut out = [0; FAULT_LONG];
+        fill_ended(&mut out, FAULT, &slots);
+        out
     }
 }
 
 impl Summary {
-    // Writes the summary line and its newline to the front of `out`, and tells their length.
-    pub fn print(&self, out: &mut [u8]) -> Result<usize, TooShort>
-        ensures { λ r. ⌜ Wrote (summaryLine (now (self .entry)) ++ 10 ∷ []) (now (out .entry)) (now (out .exit)) r ⌝ }
+    // The summary line, with its newline.
+    pub fn printed(&self) -> [u8; COUNTS_LONG]
+        ensures { λ r. ⌜ r ≡ summaryLine (now (self .entry)) ++ 10 ∷ [] ⌝ }
     {
         let terms = Number::<LINE> { value: self.terms as u32 };
         let given = Number::<LINE> { value: self.given as u32 };
         let asks = Number::<LINE> { value: self.asks as u32 };
         let shows = Number::<LINE> { value: self.shows as u32 };
         let slots = [terms.slot(), given.slot(), asks.slot(), shows.slot()];
-        put_ended(out, COUNTS, &slots, COUNTS_LONG)
+        let mut out = [0; COUNTS_LONG];
+        fill_ended(&mut out, COUNTS, &slots);
+        out
     }
 }

@@ -19,6 +19,6 @@ returns t c =
     let end = c .in-Some .end in
     let long : length (c .args .out .now) ≡ suc end = omega (arith, c .in-Some .ensures tt) in
     let short : length (take (end - 0) (set (c .args .out .now) end (c .mark-of .result))) ≡ end = simp (length-take, length-set) (omega arith) in
-    after-write _ _ end _ (c .args .n / 10) long (c .put-front .ensures ∙ ap (λ (w : ℕ). front w (c .args .n / 10)) short)
+    after-write _ _ (front end (c .args .n / 10)) end _ long (c .put-front .ensures ∙ ap (λ (w : ℕ). front w (c .args .n / 10)) short)
     ∙ ap (λ (b : ℕ). front end (c .args .n / 10) ++ (b ∷ [])) (c .mark-of .ensures)
     ∙ sym (ap (λ (w : ℕ). front w (c .args .n)) long)

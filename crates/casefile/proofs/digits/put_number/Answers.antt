@@ -12,5 +12,5 @@ returns c =
     let end = length (c .args .out .now) - 1 in
     let long : length (c .args .out .now) ≡ suc end = omega (arith, c .pre) in
     let short : length (take (end - 0) (set (c .args .out .now) end (c .digit-of .result))) ≡ end = simp (length-take, length-set) (omega (arith, c .pre)) in
-    after-write _ _ end _ (c .args .n / 10) long (c .put-front .ensures ∙ ap (λ (w : ℕ). front w (c .args .n / 10)) short)
+    after-write _ _ (front end (c .args .n / 10)) end _ long (c .put-front .ensures ∙ ap (λ (w : ℕ). front w (c .args .n / 10)) short)
     ∙ ap (λ (b : ℕ). front end (c .args .n / 10) ++ (b ∷ [])) (c .digit-of .ensures)

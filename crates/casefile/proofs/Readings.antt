@@ -4,7 +4,7 @@ use mathlib.Core.Bool.{Bool, true, false, cond, not}
 use mathlib.Core.HLevel.{isProp→PathP}
 use mathlib.Core.List.{List, [], _∷_, _++_, map}
 use mathlib.Core.Logic.{_⊎_, inl, inr}
-use Prim.Native.Nat.{ℕ, _+_, _-_, _<_, _≤_, _^_}
+use Prim.Native.Nat.{ℕ, _+_, _-_, _<_, _≤_, _^_, min}
 use native.Mathlib.Bridge.{le-prop}
 use native.Mathlib.Omega.{arith}
 use lib.Dec.{T, eqb}
@@ -27,7 +27,7 @@ use Rattle.casefile.specs.declared.number.Number.{Number}
 use Rattle.casefile.specs.Fields.{fieldOf}
 use Rattle.casefile.specs.Layout.{byteOf, widths, long, spacesFrom, fieldsFrom, spaces, fields, Begins, RightLength, SpaceAt, partAt}
 use Rattle.casefile.specs.Lines.{letterIn, fieldsIn, Placed, placedAt, Apart, Says, FirstUnread}
-use Rattle.casefile.specs.Questions.{FirstBad, WellFormed, Fails}
+use Rattle.casefile.specs.Questions.{FirstBad, WellFormed, Fails, Reads}
 use Rattle.casefile.specs.Records.{letterOf, texts, spaced, lineOf}
 use Rattle.casefile.proofs.Columns.{fieldOf-same}
 
@@ -178,9 +178,51 @@ field-fails t line e h bad = (
   (bad .0 .0, subst (λ (c : ℕ). FirstBad (λ p. WellFormed (p .1) (partAt t p)) (fields (letterIn line)) (c, bad .0 .0)) (sym (bad .2)) (first-unread t (fieldsIn line) _ (bad .0) (h .parts) (bad .1))),
 )
 
--- a fault that is handed on: it is the answer, and no record has such a line
-pub read-fails : (t : List ℕ) (r : Result Record LineFault) (e : LineFault) → Fails t e → ErrBy r (λ y. y ≡ e) → Cases r (λ said. t ≡ lineOf said) (Fails t) × ((said : Record) → t ≡ lineOf said → r ≡ Ok said)
+-- one line has one answer
+
+first-same : {X : Type 0} (G : X → Type 0) (xs : List X) (a b : X) → FirstBad G xs a → FirstBad G xs b → a ≡ b
+first-same G [] a b h k = absurd h
+first-same G (x ∷ xs) a b (inl h) (inl k) = h .1 ∙ sym (k .1)
+first-same G (x ∷ xs) a b (inl h) (inr k) = absurd (h .0 (k .0))
+first-same G (x ∷ xs) a b (inr h) (inl k) = absurd (k .0 (h .0))
+first-same G (x ∷ xs) a b (inr h) (inr k) = first-same G xs a b (h .1) (k .1)
+
+module _ (t : List ℕ) where
+  one-letter : (l m : Letter) → Begins t l → Begins t m → l ≡ m
+  one-letter l m h k = letter-same l m (sym h ∙ k)
+
+  -- what holds by one letter holds by the other
+  by-letter : (P : Letter → Type 0) (l m : Letter) → Begins t l → Begins t m → P l → P m
+  by-letter P l m h k = subst P (one-letter l m h k)
+
+  fails-same : (e f : LineFault) → Fails t e → Fails t f → e ≡ f
+  fails-same NoLetter NoLetter h k = refl
+  fails-same NoLetter (WrongLength d) h k = absurd (h (k .0) (k .1))
+  fails-same NoLetter (NoSpace d) h k = absurd (h (k .0) (k .1))
+  fails-same NoLetter (BadField g) h k = absurd (h (k .0) (k .1))
+  fails-same (WrongLength c) NoLetter h k = absurd (k (h .0) (h .1))
+  fails-same (WrongLength c) (WrongLength d) h k = ap WrongLength (by-letter (λ l. c ≡ min (length t) (long (widths l)) + 1) (h .0) (k .0) (h .1) (k .1) (h .3) ∙ sym (k .3))
+  fails-same (WrongLength c) (NoSpace d) h k = absurd (h .2 (by-letter (RightLength t) (k .0) (h .0) (k .1) (h .1) (k .2)))
+  fails-same (WrongLength c) (BadField g) h k = absurd (h .2 (by-letter (RightLength t) (k .0) (h .0) (k .1) (h .1) (k .2)))
+  fails-same (NoSpace c) NoLetter h k = absurd (k (h .0) (h .1))
+  fails-same (NoSpace c) (WrongLength d) h k = absurd (k .2 (by-letter (RightLength t) (h .0) (k .0) (h .1) (k .1) (h .2)))
+  fails-same (NoSpace c) (NoSpace d) h k = ap NoSpace (first-same (SpaceAt t) (spaces (k .0)) c d (by-letter (λ l. FirstBad (SpaceAt t) (spaces l) c) (h .0) (k .0) (h .1) (k .1) (h .3)) (k .3))
+  fails-same (NoSpace c) (BadField g) h k = absurd (none-bad (SpaceAt t) (spaces (k .0)) c (k .3) (by-letter (λ l. FirstBad (SpaceAt t) (spaces l) c) (h .0) (k .0) (h .1) (k .1) (h .3)))
+  fails-same (BadField f) NoLetter h k = absurd (k (h .0) (h .1))
+  fails-same (BadField f) (WrongLength d) h k = absurd (k .2 (by-letter (RightLength t) (h .0) (k .0) (h .1) (k .1) (h .2)))
+  fails-same (BadField f) (NoSpace d) h k = absurd (none-bad (SpaceAt t) (spaces (h .0)) d (h .3) (by-letter (λ l. FirstBad (SpaceAt t) (spaces l) d) (k .0) (h .0) (k .1) (h .1) (k .3)))
+  fails-same (BadField f) (BadField g) h k =
+      let good : ℕ × ℕ → Type 0 = λ p. WellFormed (p .1) (partAt t p) in
+      let same = first-same good (fields (k .0)) _ _ (by-letter (λ l. FirstBad good (fields l) (f .column, h .4 .0)) (h .0) (k .0) (h .1) (k .1) (h .4 .1)) (k .4 .1) in
+      λ i. BadField (record { column = same i .0 })
+
+  pub reads-same : (r q : Result Record LineFault) → Reads t r → Reads t q → r ≡ q
+  reads-same (Ok r) (Ok q) h k = ap Ok (line-same r q (sym h ∙ k))
+  reads-same (Ok r) (Err f) h k = absurd (never-fails r f (subst (λ l. Fails l f) h k))
+  reads-same (Err e) (Ok q) h k = absurd (never-fails q e (subst (λ l. Fails l e) k h))
+  reads-same (Err e) (Err f) h k = ap Err (fails-same e f h k)
+
+-- a fault that a `?` hands on
+pub read-fails : (t : List ℕ) (r : Result Record LineFault) (e : LineFault) → Fails t e → ErrBy r (λ y. y ≡ e) → Reads t r
 read-fails t (Ok said) e h by = absurd by
-read-fails t (Err f) e h by =
-    let fails = subst (Fails t) (sym by) h in
-    (fails, λ said is. absurd (never-fails said f (subst (λ l. Fails l f) is fails)))
+read-fails t (Err f) e h by = subst (Fails t) (sym by) h

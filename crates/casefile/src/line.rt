@@ -4,12 +4,11 @@ ghost use mathlib.Core.List.{[], _∷_};
 ghost use Prim.Native.Nat.{ℕ, _+_, _<_, _≤_, _^_, min};
 ghost use lib.ListN.{length};
 ghost use Rattle.std.specs.Results.{Cases as ByOk};
-ghost use Rattle.std.specs.declared.result.Result.the-variants.{Ok};
+ghost use Rattle.std.specs.declared.result.Result.{Result};
 ghost use Rattle.casefile.specs.Fields.{fieldOf};
-ghost use Rattle.casefile.specs.Questions.{WellFormed, Fails};
+ghost use Rattle.casefile.specs.Questions.{WellFormed, Fails, Reads};
 ghost use Rattle.casefile.specs.Layout.{byteOf, widths, SpaceAt};
 ghost use Rattle.casefile.specs.Lines.{Apart, Says, FirstUnread, placed, placedAt};
-ghost use Rattle.casefile.specs.Records.{lineOf};
 use super::digits::read_number;
 use super::fault::FieldFault;
 use super::fault::LineFault;
@@ -182,8 +181,8 @@ impl<'a> Line<'a> {
 
 // What a line says, or the first question that it fails.
 pub fn read_line(text: &[u8]) -> Result<Record, LineFault>
-    ensures answer { λ r. ⌜ ByOk r (λ said. now (text .entry) ≡ lineOf said) (λ e. Fails (now (text .entry)) e) ⌝ }
-    ensures back { λ r. ⌜ ((said : Record) → now (text .entry) ≡ lineOf said → r ≡ Ok said) ⌝ }
+    ensures answer { λ r. ⌜ Reads (now (text .entry)) r ⌝ }
+    ensures only { λ r. ⌜ ((q : Result Record LineFault) → Reads (now (text .entry)) q → r ≡ q) ⌝ }
 {
     let line = Line::cut(text)?;
     let said = line.record()?;

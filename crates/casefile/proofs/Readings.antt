@@ -195,7 +195,7 @@ module _ (t : List ℕ) where
   by-letter : (P : Letter → Type 0) (l m : Letter) → Begins t l → Begins t m → P l → P m
   by-letter P l m h k = subst P (one-letter l m h k)
 
-  fails-same : (e f : LineFault) → Fails t e → Fails t f → e ≡ f
+  pub fails-same : (e f : LineFault) → Fails t e → Fails t f → e ≡ f
   fails-same NoLetter NoLetter h k = refl
   fails-same NoLetter (WrongLength d) h k = absurd (h (k .0) (k .1))
   fails-same NoLetter (NoSpace d) h k = absurd (h (k .0) (k .1))

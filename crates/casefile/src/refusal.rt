@@ -11,6 +11,6 @@ use super::fault::TextFaultPartialEq;
 pub struct Refusal {
     pub line: usize,
     pub fault: TextFault,
-    ghost few_lines: { line < 100000 },
-    ghost few_columns: { columnOf fault < 100 },
+    ghost low: { line < 100000 },
+    ghost narrow: { columnOf fault < 100 },
 }

@@ -5,6 +5,7 @@ ghost use Prim.Native.Nat.{ℕ, _+_, _<_, _≤_};
 ghost use lib.ListN.{length, drop};
 ghost use Rattle.std.specs.Options.{Cases};
 ghost use Rattle.std.specs.Results.{Cases as ByOk};
+ghost use Rattle.std.specs.declared.result.Result.{Result};
 ghost use Rattle.casefile.specs.Records.{lineOf};
 ghost use Rattle.casefile.specs.Texts.{OneLine, Cut, FirstFault, Holds, Adds, Checked};
 use super::fault::TextFault;
@@ -70,7 +71,8 @@ pub fn first_record(text: &[u8]) -> Result<(Record, usize), TextFault>
 
 // What a text holds, or its first fault and the line that has it.
 pub fn check_text(text: &[u8]) -> Result<Summary, Refusal>
-    ensures { λ r. ⌜ Checked (now (text .entry)) r ⌝ }
+    ensures answer { λ r. ⌜ Checked (now (text .entry)) r ⌝ }
+    ensures only { λ r. ⌜ ((q : Result Summary Refusal) → Checked (now (text .entry)) q → r ≡ q) ⌝ }
 {
     if text.len() > LIMIT {
         return Err(Refusal { line: 0, fault: TextFault::TooLong });

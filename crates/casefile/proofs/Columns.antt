@@ -48,14 +48,14 @@ module _ (f : ℕ → ℕ) (t : List ℕ) (w k : ℕ) (long : length t ≡ suc w
   pub some-above : (above : ℕ) → above < 10 ^ k → take w t ≡ front k above → (r : Option ℕ) → Cases r ((n : ℕ) → n / 10 ≡ above → f n ≡ getD t w 0 → ⊥) (λ n. (n / 10 ≡ above) × (f n ≡ getD t w 0)) → Cases r ((n : ℕ) → n < 10 ^ length t → t ≡ front w (n / 10) ++ (f n ∷ []) → ⊥) (λ n. (n < 10 ^ length t) × (t ≡ front w (n / 10) ++ (f n ∷ [])))
   some-above above lt is None none =
       λ n low h.
-          none n
-          (front-same k (n / 10) above (small n low) lt (ap (λ (x : ℕ). front x (n / 10)) short ∙ sym (columns n h .0) ∙ is))
-          (sym (columns n h .1))
+      none n
+      (front-same k (n / 10) above (small n low) lt (ap (λ (x : ℕ). front x (n / 10)) short ∙ sym (columns n h .0) ∙ is))
+      (sym (columns n h .1))
   some-above above lt is (Some n) told = (
     rw long (let low : above < 10 ^ w = rw short at lt in omega (arith, pow-suc 10 w, told .0)),
     last-column t w long
-    ∙ ap (λ x. x ++ (getD t w 0 ∷ [])) (is ∙ ap (λ (x : ℕ). front x above) short ∙ ap (front w) (sym (told .0)))
-    ∙ ap (λ b. front w (n / 10) ++ (b ∷ [])) (sym (told .1)),
+        ∙ ap (λ x. x ++ (getD t w 0 ∷ [])) (is ∙ ap (λ (x : ℕ). front x above) short ∙ ap (front w) (sym (told .0)))
+        ∙ ap (λ b. front w (n / 10) ++ (b ∷ [])) (sym (told .1)),
   )
 
 -- the last byte is written, then what stands before it

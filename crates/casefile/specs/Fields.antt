@@ -3,6 +3,8 @@ use mathlib.Core.Bool.{cond}
 use mathlib.Core.List.{List, [], _∷_, _++_}
 use Prim.Native.Nat.{ℕ, zero, suc, _+_, _-_, _/_, _%_}
 use lib.Dec.{eqb}
+use lib.ListN.{length, replicate}
+use Rattle.std.specs.Written.{decimal}
 
 -- the byte of a number's last digit
 abbrev pub digit : ℕ → ℕ
@@ -20,3 +22,7 @@ front (suc w) n = front w (n / 10) ++ (mark n ∷ [])
 -- the text of the number n in a field of w columns: its last column is a digit, also for zero
 abbrev pub fieldOf : ℕ → ℕ → List ℕ
 fieldOf w n = front (w - 1) (n / 10) ++ (digit n ∷ [])
+
+-- the same text in plain words: spaces, then the number's decimal digits
+abbrev pub justified : ℕ → ℕ → List ℕ
+justified w n = replicate (w - length (decimal n)) 32 ++ decimal n

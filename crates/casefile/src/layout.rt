@@ -8,29 +8,40 @@ pub const LIMIT: usize = 65_536;
 
 // The byte between fields and before the first, and the one that ends a line.
 pub const SPACE: u8 = b' ';
+
 pub const NEWLINE: u8 = b'\n';
 
 // The widths of fields in columns.
 pub const ROW: usize = 4;
+
 pub const KIND: usize = 2;
+
 pub const PART: usize = 4;
 
 // The columns of fields; each stands behind one space.
 pub const ROW_AT: usize = 3;
+
 pub const KIND_AT: usize = 8;
+
 pub const LEFT_AT: usize = 11;
+
 pub const RIGHT_AT: usize = 16;
 
 // The letters of a printed fault line and of a printed summary line, the width of a count of lines in them, and
 // how long they are with their newline.
 pub const FAULT: u8 = b'F';
+
 pub const COUNTS: u8 = b'C';
+
 pub const LINE: usize = 5;
+
 pub const FAULT_LONG: usize = 16;
+
 pub const COUNTS_LONG: usize = 26;
 
 // The bytes of a line with a row only, and of a term's line.
 pub const SHORT: usize = 6;
+
 pub const LONG: usize = 19;
 
 // The letters that a line begins with.

@@ -4,8 +4,9 @@ ghost use mathlib.Core.List.{[], _∷_};
 ghost use Prim.Native.Nat.{ℕ, _+_, _<_, _≤_, _^_, min};
 ghost use lib.ListN.{length};
 ghost use Rattle.std.specs.Results.{Cases as ByOk};
+ghost use Rattle.std.specs.Vec.{made};
 ghost use Rattle.std.specs.declared.result.Result.{Result};
-ghost use Rattle.casefile.specs.Fields.{fieldOf};
+ghost use Rattle.casefile.specs.Fields.{fieldOf, justified};
 ghost use Rattle.casefile.specs.Questions.{WellFormed, Fails, Reads};
 ghost use Rattle.casefile.specs.Layout.{byteOf, widths, SpaceAt};
 ghost use Rattle.casefile.specs.Lines.{Apart, Says, FirstUnread, placed, placedAt};
@@ -40,27 +41,52 @@ pub struct Field<'a> {
 // A line taken apart: its letter, and the fields behind it.
 #[derive(Clone, Copy)]
 pub enum Line<'a> {
-    Term { row: Field<'a>, kind: Field<'a>, left: Field<'a>, right: Field<'a> },
-    Given { row: Field<'a> },
-    Ask { row: Field<'a> },
-    Show { row: Field<'a> },
+    Term {
+        row: Field<'a>,
+        kind: Field<'a>,
+        left: Field<'a>,
+        right: Field<'a>,
+    },
+    Given {
+        row: Field<'a>,
+    },
+    Ask {
+        row: Field<'a>,
+    },
+    Show {
+        row: Field<'a>,
+    },
 }
 
 // What a line says: its letter, and numbers that fit the fields.
 #[derive(Clone, Copy, PartialEq, Eq, Debug)]
 pub enum Record {
-    Term { row: Number<ROW>, kind: Number<KIND>, left: Number<PART>, right: Number<PART> },
-    Given { row: Number<ROW> },
-    Ask { row: Number<ROW> },
-    Show { row: Number<ROW> },
+    Term {
+        row: Number<ROW>,
+        kind: Number<KIND>,
+        left: Number<PART>,
+        right: Number<PART>,
+    },
+    Given {
+        row: Number<ROW>,
+    },
+    Ask {
+        row: Number<ROW>,
+    },
+    Show {
+        row: Number<ROW>,
+    },
 }
 
 impl Field<'_> {
     // The number that the field holds, in a width of `W` columns.
     pub fn number<const W: usize>(&self) -> Result<Number<W>, FieldFault>
-        ensures { λ r. ⌜ ByOk r (λ n. now (now (self .entry) .text) ≡ fieldOf W (n .value)) (λ e. (e .column ≡ now (self .entry) .column) × (WellFormed W (now (now (self .entry) .text)) → ⊥)) ⌝ }
+        ensures digits { λ r. ⌜ made r (λ n. now (now (self .entry) .text) ≡ justified W (n .value)) ⌝ }
+        ensures answer { λ r. ⌜ ByOk r (λ n. now (now (self .entry) .text) ≡ fieldOf W (n .value)) (λ e. (e .column ≡ now (self .entry) .column) × (WellFormed W (now (now (self .entry) .text)) → ⊥)) ⌝ }
     {
-        let fault = FieldFault { column: self.column };
+        let fault = FieldFault {
+            column: self.column,
+        };
         if self.text.len() != W || W > WIDEST {
             return Err(fault);
         }
@@ -76,7 +102,9 @@ fn wrong_length(len: usize, right: usize) -> LineFault
     requires { ⌜ right ≤ 19 ⌝ }
     ensures { λ r. ⌜ r ≡ LineFault.WrongLength (min len right + 1) ⌝ }
 {
-    LineFault::WrongLength { column: len.min(right) + 1 }
+    LineFault::WrongLength {
+        column: len.min(right) + 1,
+    }
 }
 
 // The row of a line that has no other field, from what stands behind its letter.
@@ -90,7 +118,10 @@ fn cut_row<'a>(head: Letter, rest: &'a [u8]) -> Result<Field<'a>, LineFault>
     let [SPACE, row @ ..] = rest else {
         return Err(LineFault::NoSpace { column: ROW_AT - 1 });
     };
-    Ok(Field { text: row, column: ROW_AT })
+    Ok(Field {
+        text: row,
+        column: ROW_AT,
+    })
 }
 
 // The four fields of a term's line, from what stands behind its letter.
@@ -105,21 +136,39 @@ fn cut_term<'a>(rest: &'a [u8]) -> Result<Line<'a>, LineFault>
     };
     let (row, rest) = rest.split_at(ROW);
     let [SPACE, rest @ ..] = rest else {
-        return Err(LineFault::NoSpace { column: KIND_AT - 1 });
+        return Err(LineFault::NoSpace {
+            column: KIND_AT - 1,
+        });
     };
     let (kind, rest) = rest.split_at(KIND);
     let [SPACE, rest @ ..] = rest else {
-        return Err(LineFault::NoSpace { column: LEFT_AT - 1 });
+        return Err(LineFault::NoSpace {
+            column: LEFT_AT - 1,
+        });
     };
     let (left, rest) = rest.split_at(PART);
     let [SPACE, right @ ..] = rest else {
-        return Err(LineFault::NoSpace { column: RIGHT_AT - 1 });
+        return Err(LineFault::NoSpace {
+            column: RIGHT_AT - 1,
+        });
     };
     Ok(Line::Term {
-        row: Field { text: row, column: ROW_AT },
-        kind: Field { text: kind, column: KIND_AT },
-        left: Field { text: left, column: LEFT_AT },
-        right: Field { text: right, column: RIGHT_AT },
+        row: Field {
+            text: row,
+            column: ROW_AT,
+        },
+        kind: Field {
+            text: kind,
+            column: KIND_AT,
+        },
+        left: Field {
+            text: left,
+            column: LEFT_AT,
+        },
+        right: Field {
+            text: right,
+            column: RIGHT_AT,
+        },
     })
 }
 
@@ -156,12 +205,22 @@ impl<'a> Line<'a> {
         ensures { λ r. ⌜ ByOk r (λ said. Says (now (self .entry)) said) (λ e. FirstUnread (now (self .entry)) (e .column)) ⌝ }
     {
         match self {
-            Line::Term { row, kind, left, right } => {
+            Line::Term {
+                row,
+                kind,
+                left,
+                right,
+            } => {
                 let row = row.number()?;
                 let kind = kind.number()?;
                 let left = left.number()?;
                 let right = right.number()?;
-                Ok(Record::Term { row, kind, left, right })
+                Ok(Record::Term {
+                    row,
+                    kind,
+                    left,
+                    right,
+                })
             }
             Line::Given { row } => {
                 let row = row.number()?;

@@ -20,7 +20,10 @@ impl<const W: usize> Number<W> {
     pub(crate) fn slot(self) -> Slot
         ensures { λ r. ⌜ r ≡ slotOf W (self .entry .value) ⌝ }
     {
-        Slot { width: W, number: self.value }
+        Slot {
+            width: W,
+            number: self.value,
+        }
     }
 }
 
@@ -53,7 +56,12 @@ fn fill_line(out: &mut [u8], letter: u8, slots: &[Slot])
 }
 
 // Writes a line of `long` bytes to the front of `out`.
-pub(crate) fn put_line(out: &mut [u8], letter: u8, slots: &[Slot], long: usize) -> Result<usize, TooShort>
+pub(crate) fn put_line(
+    out: &mut [u8],
+    letter: u8,
+    slots: &[Slot],
+    long: usize,
+) -> Result<usize, TooShort>
     requires { ⌜ long ≡ 1 + spanOf (now slots) ⌝ ∗ ⌜ Wide (now slots) ⌝ }
     ensures { λ r. ⌜ Wrote (letter ∷ slotted (now (slots .entry))) (now (out .entry)) (now (out .exit)) r ⌝ }
 {

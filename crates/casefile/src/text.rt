@@ -21,7 +21,12 @@ impl Summary {
     fn new() -> Summary
         ensures { λ r. ⌜ Holds [] r ⌝ }
     {
-        Summary { terms: 0, given: 0, asks: 0, shows: 0 }
+        Summary {
+            terms: 0,
+            given: 0,
+            asks: 0,
+            shows: 0,
+        }
     }
 
     // The counts with one more record.
@@ -29,12 +34,37 @@ impl Summary {
         requires { ⌜ self .terms + self .given + self .asks + self .shows < 99999 ⌝ }
         ensures { λ r. ⌜ Adds self said r ⌝ }
     {
-        let Summary { terms, given, asks, shows } = self;
+        let Summary {
+            terms,
+            given,
+            asks,
+            shows,
+        } = self;
         match said {
-            Record::Term { .. } => Summary { terms: terms + 1, given, asks, shows },
-            Record::Given { .. } => Summary { terms, given: given + 1, asks, shows },
-            Record::Ask { .. } => Summary { terms, given, asks: asks + 1, shows },
-            Record::Show { .. } => Summary { terms, given, asks, shows: shows + 1 },
+            Record::Term { .. } => Summary {
+                terms: terms + 1,
+                given,
+                asks,
+                shows,
+            },
+            Record::Given { .. } => Summary {
+                terms,
+                given: given + 1,
+                asks,
+                shows,
+            },
+            Record::Ask { .. } => Summary {
+                terms,
+                given,
+                asks: asks + 1,
+                shows,
+            },
+            Record::Show { .. } => Summary {
+                terms,
+                given,
+                asks,
+                shows: shows + 1,
+            },
         }
     }
 
@@ -75,7 +105,10 @@ pub fn check_text(text: &[u8]) -> Result<Summary, Refusal>
     ensures only { λ r. ⌜ ((q : Result Summary Refusal) → Checked (now (text .entry)) q → r ≡ q) ⌝ }
 {
     if text.len() > LIMIT {
-        return Err(Refusal { line: 0, fault: TextFault::TooLong });
+        return Err(Refusal {
+            line: 0,
+            fault: TextFault::TooLong,
+        });
     }
     let mut held = Summary::new();
     let mut rest = text;
@@ -86,7 +119,10 @@ pub fn check_text(text: &[u8]) -> Result<Summary, Refusal>
                 held = held.with(said);
                 rest = &rest[used..];
             }
-            Err(fault) => return Err(Refusal { line: held.lines() + 1, fault }),
+            Err(fault) => return Err(Refusal {
+                line: held.lines() + 1,
+                fault,
+            }),
         }
     }
     Ok(held)

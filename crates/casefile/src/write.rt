@@ -4,10 +4,10 @@ ghost use mathlib.Core.Path.{_≡_};
 ghost use Rattle.casefile.specs.Printed.{refusalLine, summaryLine};
 ghost use Rattle.casefile.specs.Put.{Wrote};
 ghost use Rattle.casefile.specs.Records.{lineOf};
-use super::layout::FAULT;
-use super::layout::FAULT_LONG;
 use super::layout::COUNTS;
 use super::layout::COUNTS_LONG;
+use super::layout::FAULT;
+use super::layout::FAULT_LONG;
 use super::layout::LINE;
 use super::layout::LONG;
 use super::layout::Letter;
@@ -26,7 +26,12 @@ impl Record {
         ensures { λ r. ⌜ Wrote (lineOf (now (self .entry))) (now (out .entry)) (now (out .exit)) r ⌝ }
     {
         match self {
-            Record::Term { row, kind, left, right } => {
+            Record::Term {
+                row,
+                kind,
+                left,
+                right,
+            } => {
                 let slots = [row.slot(), kind.slot(), left.slot(), right.slot()];
                 put_line(out, Letter::Term.byte(), &slots, LONG)
             }
@@ -42,10 +47,18 @@ impl Refusal {
     pub fn printed(&self) -> [u8; FAULT_LONG]
         ensures { λ r. ⌜ r ≡ refusalLine (now (self .entry)) ++ 10 ∷ [] ⌝ }
     {
-        let line = Number::<LINE> { value: self.line as u32 };
-        let column = Number::<2> { value: self.fault.column() as u32 };
-        let layer = Number::<1> { value: u32::from(self.fault.layer()) };
-        let number = Number::<2> { value: u32::from(self.fault.number()) };
+        let line = Number::<LINE> {
+            value: self.line as u32,
+        };
+        let column = Number::<2> {
+            value: self.fault.column() as u32,
+        };
+        let layer = Number::<1> {
+            value: u32::from(self.fault.layer()),
+        };
+        let number = Number::<2> {
+            value: u32::from(self.fault.number()),
+        };
         let slots = [line.slot(), column.slot(), layer.slot(), number.slot()];
         let mut out = [0; FAULT_LONG];
         fill_ended(&mut out, FAULT, &slots);
@@ -58,10 +71,18 @@ impl Summary {
     pub fn printed(&self) -> [u8; COUNTS_LONG]
         ensures { λ r. ⌜ r ≡ summaryLine (now (self .entry)) ++ 10 ∷ [] ⌝ }
     {
-        let terms = Number::<LINE> { value: self.terms as u32 };
-        let given = Number::<LINE> { value: self.given as u32 };
-        let asks = Number::<LINE> { value: self.asks as u32 };
-        let shows = Number::<LINE> { value: self.shows as u32 };
+        let terms = Number::<LINE> {
+            value: self.terms as u32,
+        };
+        let given = Number::<LINE> {
+            value: self.given as u32,
+        };
+        let asks = Number::<LINE> {
+            value: self.asks as u32,
+        };
+        let shows = Number::<LINE> {
+            value: self.shows as u32,
+        };
         let slots = [terms.slot(), given.slot(), asks.slot(), shows.slot()];
         let mut out = [0; COUNTS_LONG];
         fill_ended(&mut out, COUNTS, &slots);

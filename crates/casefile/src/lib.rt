@@ -1,13 +1,13 @@
 // The text of case files: what a line says, how it is written, and which fault a text has first.
 mod digits;
-mod fault;
-mod layout;
-mod line;
-mod number;
-mod put;
-mod refusal;
-mod summary;
-mod text;
+pub mod fault;
+pub mod layout;
+pub mod line;
+pub mod number;
+pub mod put;
+pub mod refusal;
+pub mod summary;
+pub mod text;
 mod write;
 
 pub use fault::FieldFault;

@@ -69,7 +69,7 @@ impl Summary {
     }
 
     // How many lines are counted.
-    fn lines(&self) -> usize
+    pub fn lines(&self) -> usize
         ensures { λ r. ⌜ r ≡ now (self .entry) .terms + now (self .entry) .given + now (self .entry) .asks + now (self .entry) .shows ⌝ }
     {
         self.terms + self.given + self.asks + self.shows

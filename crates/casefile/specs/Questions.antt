@@ -7,6 +7,7 @@ use lib.ListN.{length}
 use Rattle.std.specs.declared.result.Result.{Result}
 use Rattle.std.specs.declared.result.Result.the-variants.{Ok, Err}
 use Rattle.std.specs.shelf.Lists.{All}
+use Rattle.casefile.specs.declared.fault.FieldFault.{FieldFault}
 use Rattle.casefile.specs.declared.fault.LineFault.{LineFault}
 use Rattle.casefile.specs.declared.fault.LineFault.the-variants.{NoLetter, WrongLength, NoSpace, BadField}
 use Rattle.casefile.specs.declared.layout.Letter.{Letter}
@@ -24,6 +25,11 @@ FirstBad G (x ∷ xs) bad = ((G x → ⊥) × (bad ≡ x)) ⊎ (G x × FirstBad 
 -- a field of w columns is well formed: it is the text of a number that fits it
 abbrev pub WellFormed : ℕ → List ℕ → Type 0
 WellFormed w t = (n : Number w) × (t ≡ fieldOf w (n .value))
+
+-- what reading a field in column c answers: the number whose text it is, or that it is the text of none
+abbrev pub ReadsField : (w : ℕ) → ℕ → List ℕ → Result (Number w) FieldFault → Type 0
+ReadsField w c t (Ok n) = t ≡ fieldOf w (n .value)
+ReadsField w c t (Err e) = (e .column ≡ c) × (WellFormed w t → ⊥)
 
 -- what each fault says of a line's bytes: every question before its own has a yes, and its own a no in that column
 abbrev pub Fails : List ℕ → LineFault → Type 0

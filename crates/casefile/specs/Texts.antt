@@ -4,7 +4,7 @@ use mathlib.Core.List.{List, [], _∷_, _++_}
 use mathlib.Core.Path.{_≡_}
 use Prim.Native.Nat.{ℕ, _+_, _<_, _≤_}
 use lib.Dec.{eqb}
-use lib.ListN.{length, getD}
+use lib.ListN.{length, getD, drop}
 use Rattle.std.specs.declared.result.Result.{Result}
 use Rattle.std.specs.declared.result.Result.the-variants.{Ok, Err}
 use Rattle.casefile.specs.declared.fault.TextFault.{TextFault}
@@ -60,6 +60,11 @@ abbrev pub FirstFault : List ℕ → TextFault → Type 0
 FirstFault t TooLong = ⊥
 FirstFault t NoNewline = OneLine t
 FirstFault t (Line f) = (line : List ℕ) × (after : List ℕ) × Cut t line after × Fails line f
+
+-- what reading a text's first line answers: its record and how many bytes it takes with its newline, or its fault
+abbrev pub FirstReads : List ℕ → Result (Record × ℕ) TextFault → Type 0
+FirstReads t (Ok p) = (p .1 ≤ length t) × (t ≡ lineOf (p .0) ++ 10 ∷ drop (p .1) t)
+FirstReads t (Err f) = FirstFault t f
 
 -- the first fault is in line n: the lines before it say records, and the rest begins with the line at fault
 abbrev pub InLine : List ℕ → ℕ → TextFault → Type 0

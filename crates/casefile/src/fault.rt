@@ -4,6 +4,9 @@ ghost use Rattle.casefile.specs.declared.fault.LineFault.the-variants.{BadFiel
 ghost use Rattle.casefile.specs.declared.fault.TextFault.the-variants.{Line as OfLine};
 ghost use Rattle.casefile.specs.Faults.{numberOf, columnOf, layerOf};
 
+// The layer of every fault that the text alone shows.
+const TEXT_LAYER: u8 = 1;
+
 // A field that holds no right-justified number, by its first column.
 #[derive(Clone, Copy, PartialEq, Eq, Debug)]
 pub struct FieldFault {
@@ -14,8 +17,8 @@ pub struct FieldFault {
 #[derive(Clone, Copy, PartialEq, Eq, Debug)]
 pub enum LineFault {
     NoLetter,
-    WrongLength { column: usize },
-    NoSpace { column: usize },
+    WrongLength(usize),
+    NoSpace(usize),
     BadField(FieldFault),
 }
 
@@ -52,8 +55,8 @@ impl TextFault {
             TextFault::TooLong => 16,
             TextFault::NoNewline => 15,
             TextFault::Line(LineFault::NoLetter) => 10,
-            TextFault::Line(LineFault::WrongLength { .. }) => 11,
-            TextFault::Line(LineFault::NoSpace { .. }) => 12,
+            TextFault::Line(LineFault::WrongLength(_)) => 11,
+            TextFault::Line(LineFault::NoSpace(_)) => 12,
             TextFault::Line(LineFault::BadField(_)) => 13,
         }
     }
@@ -66,8 +69,8 @@ impl TextFault {
             TextFault::TooLong => 0,
             TextFault::NoNewline => 0,
             TextFault::Line(LineFault::NoLetter) => 1,
-            TextFault::Line(LineFault::WrongLength { column }) => *column,
-            TextFault::Line(LineFault::NoSpace { column }) => *column,
+            TextFault::Line(LineFault::WrongLength(column)) => *column,
+            TextFault::Line(LineFault::NoSpace(column)) => *column,
             TextFault::Line(LineFault::BadField(fault)) => fault.column,
         }
     }
@@ -76,6 +79,6 @@ impl TextFault {
     pub fn layer(&self) -> u8
         ensures { λ r. ⌜ r ≡ layerOf (now (self .entry)) ⌝ }
     {
-        1
+        TEXT_LAYER
     }
 }

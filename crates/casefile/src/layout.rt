@@ -3,50 +3,52 @@ ghost use mathlib.Core.Path.{_≡_};
 ghost use Rattle.std.specs.Options.{Cases};
 ghost use Rattle.casefile.specs.Layout.{byteOf};
 
-// The most bytes of a text.
+// The most bytes that a text may have.
 pub const LIMIT: usize = 65_536;
 
-// The byte between fields and before the first, and the one that ends a line.
+// The byte before each field.
 pub const SPACE: u8 = b' ';
 
+// The byte that ends a line.
 pub const NEWLINE: u8 = b'\n';
 
-// The widths of fields in columns.
-pub const ROW: usize = 4;
+// Widths of fields, in columns.
+pub const ROW_WIDTH: usize = 4;
 
-pub const KIND: usize = 2;
+pub const KIND_WIDTH: usize = 2;
 
-pub const PART: usize = 4;
+pub const PART_WIDTH: usize = 4;
 
-// The columns of fields; each stands behind one space.
-pub const ROW_AT: usize = 3;
+// Columns of fields; each stands behind one space.
+pub const ROW_COLUMN: usize = 3;
 
-pub const KIND_AT: usize = 8;
+pub const KIND_COLUMN: usize = 8;
 
-pub const LEFT_AT: usize = 11;
+pub const LEFT_COLUMN: usize = 11;
 
-pub const RIGHT_AT: usize = 16;
+pub const RIGHT_COLUMN: usize = 16;
 
-// The letters of a printed fault line and of a printed summary line, the width of a count of lines in them, and
-// how long they are with their newline.
+// Lengths of a term's line, and of a line that has a row only.
+pub const TERM_LENGTH: usize = 19;
+
+pub const MARK_LENGTH: usize = 6;
+
+// The printed fault line: its letter, and its length with the newline.
 pub const FAULT: u8 = b'F';
 
+pub const FAULT_LENGTH: usize = 16;
+
+// The printed summary line: its letter, and its length with the newline.
 pub const COUNTS: u8 = b'C';
 
-pub const LINE: usize = 5;
+pub const COUNTS_LENGTH: usize = 26;
 
-pub const FAULT_LONG: usize = 16;
-
-pub const COUNTS_LONG: usize = 26;
-
-// The bytes of a line with a row only, and of a term's line.
-pub const SHORT: usize = 6;
-
-pub const LONG: usize = 19;
+// The width of a count of lines in either.
+pub const COUNT_WIDTH: usize = 5;
 
 // The letters that a line begins with.
-#[derive(Clone, Copy, PartialEq, Eq, Debug)]
-pub enum Letter {
+#[derive(Clone, Copy)]
+pub(crate) enum Letter {
     Term,
     Given,
     Ask,
@@ -54,7 +56,7 @@ pub enum Letter {
 }
 
 impl Letter {
-    pub fn of(byte: u8) -> Option<Letter>
+    pub(crate) fn of(byte: u8) -> Option<Letter>
         ensures { λ r. ⌜ Cases r ((l : Letter) → byte ≡ byteOf l → ⊥) (λ l. byte ≡ byteOf l) ⌝ }
     {
         match byte {
@@ -66,7 +68,7 @@ impl Letter {
         }
     }
 
-    pub fn byte(self) -> u8
+    pub(crate) fn byte(self) -> u8
         ensures { λ r. ⌜ r ≡ byteOf self ⌝ }
     {
         match self {

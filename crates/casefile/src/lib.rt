@@ -1,7 +1,7 @@
 // The text of case files: what a line says, how it is written, and which fault a text has first.
 mod digits;
 pub mod fault;
-pub mod layout;
+mod layout;
 pub mod line;
 pub mod number;
 pub mod put;
@@ -14,7 +14,6 @@ pub use fault::FieldFault;
 pub use fault::LineFault;
 pub use fault::TextFault;
 pub use layout::LIMIT;
-pub use layout::Letter;
 pub use line::Field;
 pub use line::Line;
 pub use line::Record;

@@ -6,25 +6,25 @@ ghost use lib.ListN.{length};
 ghost use Rattle.std.specs.Results.{Cases as ByOk};
 ghost use Rattle.std.specs.Vec.{made};
 ghost use Rattle.std.specs.declared.result.Result.{Result};
-ghost use Rattle.casefile.specs.Fields.{fieldOf, justified};
-ghost use Rattle.casefile.specs.Questions.{WellFormed, Fails, Reads};
+ghost use Rattle.casefile.specs.Fields.{justified};
+ghost use Rattle.casefile.specs.Questions.{ReadsField, Fails, Reads};
 ghost use Rattle.casefile.specs.Layout.{byteOf, widths, SpaceAt};
 ghost use Rattle.casefile.specs.Lines.{Apart, Says, FirstUnread, placed, placedAt};
 use super::digits::read_number;
 use super::fault::FieldFault;
 use super::fault::LineFault;
 use super::fault::LineFromField;
-use super::layout::KIND;
-use super::layout::KIND_AT;
-use super::layout::LEFT_AT;
-use super::layout::LONG;
+use super::layout::KIND_COLUMN;
+use super::layout::KIND_WIDTH;
+use super::layout::LEFT_COLUMN;
 use super::layout::Letter;
-use super::layout::PART;
-use super::layout::RIGHT_AT;
-use super::layout::ROW;
-use super::layout::ROW_AT;
-use super::layout::SHORT;
+use super::layout::MARK_LENGTH;
+use super::layout::PART_WIDTH;
+use super::layout::RIGHT_COLUMN;
+use super::layout::ROW_COLUMN;
+use super::layout::ROW_WIDTH;
 use super::layout::SPACE;
+use super::layout::TERM_LENGTH;
 use super::number::Number;
 use super::number::NumberDebug;
 use super::number::NumberEq;
@@ -62,19 +62,19 @@ pub enum Line<'a> {
 #[derive(Clone, Copy, PartialEq, Eq, Debug)]
 pub enum Record {
     Term {
-        row: Number<ROW>,
-        kind: Number<KIND>,
-        left: Number<PART>,
-        right: Number<PART>,
+        row: Number<ROW_WIDTH>,
+        kind: Number<KIND_WIDTH>,
+        left: Number<PART_WIDTH>,
+        right: Number<PART_WIDTH>,
     },
     Given {
-        row: Number<ROW>,
+        row: Number<ROW_WIDTH>,
     },
     Ask {
-        row: Number<ROW>,
+        row: Number<ROW_WIDTH>,
     },
     Show {
-        row: Number<ROW>,
+        row: Number<ROW_WIDTH>,
     },
 }
 
@@ -82,7 +82,7 @@ impl Field<'_> {
     // The number that the field holds, in a width of `W` columns.
     pub fn number<const W: usize>(&self) -> Result<Number<W>, FieldFault>
         ensures digits { λ r. ⌜ made r (λ n. now (now (self .entry) .text) ≡ justified W (n .value)) ⌝ }
-        ensures answer { λ r. ⌜ ByOk r (λ n. now (now (self .entry) .text) ≡ fieldOf W (n .value)) (λ e. (e .column ≡ now (self .entry) .column) × (WellFormed W (now (now (self .entry) .text)) → ⊥)) ⌝ }
+        ensures answer { λ r. ⌜ ReadsField W (now (self .entry) .column) (now (now (self .entry) .text)) r ⌝ }
     {
         let fault = FieldFault {
             column: self.column,
@@ -102,73 +102,57 @@ fn wrong_length(len: usize, right: usize) -> LineFault
     requires { ⌜ right ≤ 19 ⌝ }
     ensures { λ r. ⌜ r ≡ LineFault.WrongLength (min len right + 1) ⌝ }
 {
-    LineFault::WrongLength {
-        column: len.min(right) + 1,
-    }
+    LineFault::WrongLength(len.min(right) + 1)
+}
+
+// A field by its column.
+fn field_at<'a>(column: usize, text: &'a [u8]) -> Field<'a>
+    ensures { λ r. ⌜ ((w : ℕ) → placed w r ≡ (w, column, now (text .entry))) ⌝ }
+{
+    Field { text, column }
 }
 
 // The row of a line that has no other field, from what stands behind its letter.
-fn cut_row<'a>(head: Letter, rest: &'a [u8]) -> Result<Field<'a>, LineFault>
-    requires { ⌜ widths head ≡ 4 ∷ [] ⌝ }
-    ensures { λ r. ⌜ ByOk r (λ f. (length (now (rest .entry)) ≡ 5) × SpaceAt (byteOf head ∷ now (rest .entry)) 2 × (placed 4 f ≡ placedAt (byteOf head ∷ now (rest .entry)) (3, 4))) (λ e. Fails (byteOf head ∷ now (rest .entry)) e) ⌝ }
+fn cut_row<'a>(letter: Letter, rest: &'a [u8]) -> Result<Field<'a>, LineFault>
+    requires { ⌜ widths letter ≡ 4 ∷ [] ⌝ }
+    ensures { λ r. ⌜ ByOk r (λ f. (length (now (rest .entry)) ≡ 5) × SpaceAt (byteOf letter ∷ now (rest .entry)) 2 × (placed 4 f ≡ placedAt (byteOf letter ∷ now (rest .entry)) (3, 4))) (λ e. Fails (byteOf letter ∷ now (rest .entry)) e) ⌝ }
 {
-    if rest.len() != SHORT - 1 {
-        return Err(wrong_length(rest.len() + 1, SHORT));
+    if rest.len() != MARK_LENGTH - 1 {
+        return Err(wrong_length(rest.len() + 1, MARK_LENGTH));
     }
     let [SPACE, row @ ..] = rest else {
-        return Err(LineFault::NoSpace { column: ROW_AT - 1 });
+        return Err(LineFault::NoSpace(ROW_COLUMN - 1));
     };
-    Ok(Field {
-        text: row,
-        column: ROW_AT,
-    })
+    Ok(field_at(ROW_COLUMN, row))
 }
 
 // The four fields of a term's line, from what stands behind its letter.
 fn cut_term<'a>(rest: &'a [u8]) -> Result<Line<'a>, LineFault>
     ensures { λ r. ⌜ ByOk r (λ line. Apart (84 ∷ now (rest .entry)) line) (λ e. Fails (84 ∷ now (rest .entry)) e) ⌝ }
 {
-    if rest.len() != LONG - 1 {
-        return Err(wrong_length(rest.len() + 1, LONG));
+    if rest.len() != TERM_LENGTH - 1 {
+        return Err(wrong_length(rest.len() + 1, TERM_LENGTH));
     }
     let [SPACE, rest @ ..] = rest else {
-        return Err(LineFault::NoSpace { column: ROW_AT - 1 });
+        return Err(LineFault::NoSpace(ROW_COLUMN - 1));
     };
-    let (row, rest) = rest.split_at(ROW);
+    let (row, rest) = rest.split_at(ROW_WIDTH);
     let [SPACE, rest @ ..] = rest else {
-        return Err(LineFault::NoSpace {
-            column: KIND_AT - 1,
-        });
+        return Err(LineFault::NoSpace(KIND_COLUMN - 1));
     };
-    let (kind, rest) = rest.split_at(KIND);
+    let (kind, rest) = rest.split_at(KIND_WIDTH);
     let [SPACE, rest @ ..] = rest else {
-        return Err(LineFault::NoSpace {
-            column: LEFT_AT - 1,
-        });
+        return Err(LineFault::NoSpace(LEFT_COLUMN - 1));
     };
-    let (left, rest) = rest.split_at(PART);
+    let (left, rest) = rest.split_at(PART_WIDTH);
     let [SPACE, right @ ..] = rest else {
-        return Err(LineFault::NoSpace {
-            column: RIGHT_AT - 1,
-        });
+        return Err(LineFault::NoSpace(RIGHT_COLUMN - 1));
     };
     Ok(Line::Term {
-        row: Field {
-            text: row,
-            column: ROW_AT,
-        },
-        kind: Field {
-            text: kind,
-            column: KIND_AT,
-        },
-        left: Field {
-            text: left,
-            column: LEFT_AT,
-        },
-        right: Field {
-            text: right,
-            column: RIGHT_AT,
-        },
+        row: field_at(ROW_COLUMN, row),
+        kind: field_at(KIND_COLUMN, kind),
+        left: field_at(LEFT_COLUMN, left),
+        right: field_at(RIGHT_COLUMN, right),
     })
 }
 

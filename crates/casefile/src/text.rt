@@ -2,12 +2,9 @@
 ghost use mathlib.Core.Path.{_≡_};
 ghost use mathlib.Core.List.{List, [], _∷_, _++_};
 ghost use Prim.Native.Nat.{ℕ, _+_, _<_, _≤_};
-ghost use lib.ListN.{length, drop};
 ghost use Rattle.std.specs.Options.{Cases};
-ghost use Rattle.std.specs.Results.{Cases as ByOk};
 ghost use Rattle.std.specs.declared.result.Result.{Result};
-ghost use Rattle.casefile.specs.Records.{lineOf};
-ghost use Rattle.casefile.specs.Texts.{OneLine, Cut, FirstFault, Holds, Adds, Checked};
+ghost use Rattle.casefile.specs.Texts.{OneLine, Cut, FirstReads, Holds, Adds, Checked};
 use super::fault::TextFault;
 use super::fault::TextFromLine;
 use super::layout::LIMIT;
@@ -90,7 +87,7 @@ pub fn cut_line(text: &[u8]) -> Option<(&[u8], &[u8])>
 
 // What the first line of a text says, with the bytes that the line and its newline take, or the line's fault.
 pub fn first_record(text: &[u8]) -> Result<(Record, usize), TextFault>
-    ensures { λ r. ⌜ ByOk r (λ p. (p .1 ≤ length (now (text .entry))) × (now (text .entry) ≡ lineOf (p .0) ++ 10 ∷ drop (p .1) (now (text .entry)))) (λ f. FirstFault (now (text .entry)) f) ⌝ }
+    ensures { λ r. ⌜ FirstReads (now (text .entry)) r ⌝ }
 {
     let Some((line, _)) = cut_line(text) else {
         return Err(TextFault::NoNewline);

@@ -4,14 +4,14 @@ ghost use mathlib.Core.Path.{_≡_};
 ghost use Rattle.casefile.specs.Printed.{refusalLine, summaryLine};
 ghost use Rattle.casefile.specs.Put.{Wrote};
 ghost use Rattle.casefile.specs.Records.{lineOf};
+use super::layout::COUNT_WIDTH;
 use super::layout::COUNTS;
-use super::layout::COUNTS_LONG;
+use super::layout::COUNTS_LENGTH;
 use super::layout::FAULT;
-use super::layout::FAULT_LONG;
-use super::layout::LINE;
-use super::layout::LONG;
+use super::layout::FAULT_LENGTH;
 use super::layout::Letter;
-use super::layout::SHORT;
+use super::layout::MARK_LENGTH;
+use super::layout::TERM_LENGTH;
 use super::line::Record;
 use super::number::Number;
 use super::put::TooShort;
@@ -33,21 +33,26 @@ impl Record {
                 right,
             } => {
                 let slots = [row.slot(), kind.slot(), left.slot(), right.slot()];
-                put_line(out, Letter::Term.byte(), &slots, LONG)
+                put_line(out, Letter::Term.byte(), &slots, TERM_LENGTH)
             }
-            Record::Given { row } => put_line(out, Letter::Given.byte(), &[row.slot()], SHORT),
-            Record::Ask { row } => put_line(out, Letter::Ask.byte(), &[row.slot()], SHORT),
-            Record::Show { row } => put_line(out, Letter::Show.byte(), &[row.slot()], SHORT),
+            Record::Given { row } => put_line(
+                out,
+                Letter::Given.byte(),
+                &[row.slot()],
+                MARK_LENGTH,
+            ),
+            Record::Ask { row } => put_line(out, Letter::Ask.byte(), &[row.slot()], MARK_LENGTH),
+            Record::Show { row } => put_line(out, Letter::Show.byte(), &[row.slot()], MARK_LENGTH),
         }
     }
 }
 
 impl Refusal {
     // The fault line, with its newline.
-    pub fn printed(&self) -> [u8; FAULT_LONG]
+    pub fn printed(&self) -> [u8; FAULT_LENGTH]
         ensures { λ r. ⌜ r ≡ refusalLine (now (self .entry)) ++ 10 ∷ [] ⌝ }
     {
-        let line = Number::<LINE> {
+        let line = Number::<COUNT_WIDTH> {
             value: self.line as u32,
         };
         let column = Number::<2> {
@@ -60,7 +65,7 @@ impl Refusal {
             value: u32::from(self.fault.number()),
         };
         let slots = [line.slot(), column.slot(), layer.slot(), number.slot()];
-        let mut out = [0; FAULT_LONG];
+        let mut out = [0; FAULT_LENGTH];
         fill_ended(&mut out, FAULT, &slots);
         out
     }
@@ -68,23 +73,23 @@ impl Refusal {
 
 impl Summary {
     // The summary line, with its newline.
-    pub fn printed(&self) -> [u8; COUNTS_LONG]
+    pub fn printed(&self) -> [u8; COUNTS_LENGTH]
         ensures { λ r. ⌜ r ≡ summaryLine (now (self .entry)) ++ 10 ∷ [] ⌝ }
     {
-        let terms = Number::<LINE> {
+        let terms = Number::<COUNT_WIDTH> {
             value: self.terms as u32,
         };
-        let given = Number::<LINE> {
+        let given = Number::<COUNT_WIDTH> {
             value: self.given as u32,
         };
-        let asks = Number::<LINE> {
+        let asks = Number::<COUNT_WIDTH> {
             value: self.asks as u32,
         };
-        let shows = Number::<LINE> {
+        let shows = Number::<COUNT_WIDTH> {
             value: self.shows as u32,
         };
         let slots = [terms.slot(), given.slot(), asks.slot(), shows.slot()];
-        let mut out = [0; COUNTS_LONG];
+        let mut out = [0; COUNTS_LENGTH];
         fill_ended(&mut out, COUNTS, &slots);
         out
     }

@@ -42,57 +42,211 @@ mod tests {
 
     #[test]
     fn letters_and_lengths() -> Result<(), Fail> {
-        check_faults(&[
-            Faulty { line: b"", number: 10, column: 1 },
-            Faulty { line: b"t    1", number: 10, column: 1 },
-            Faulty { line: b" G   1", number: 10, column: 1 },
-            Faulty { line: b"\xff    1", number: 10, column: 1 },
-            Faulty { line: b"\0", number: 10, column: 1 },
-            Faulty { line: b"G", number: 11, column: 2 },
-            Faulty { line: b"G    ", number: 11, column: 6 },
-            Faulty { line: b"G    1 ", number: 11, column: 7 },
-            Faulty { line: b"G    1\r", number: 11, column: 7 },
-            Faulty { line: b"T    1", number: 11, column: 7 },
-            Faulty { line: b"T    1  0    7    ", number: 11, column: 19 },
-            Faulty { line: b"T    1  0    7    0 ", number: 11, column: 20 },
-            Faulty { line: b"S    1  0    7    0", number: 11, column: 7 },
-        ])
+        check_faults(
+            &[
+                Faulty {
+                    line: b"",
+                    number: 10,
+                    column: 1,
+                },
+                Faulty {
+                    line: b"t    1",
+                    number: 10,
+                    column: 1,
+                },
+                Faulty {
+                    line: b" G   1",
+                    number: 10,
+                    column: 1,
+                },
+                Faulty {
+                    line: b"\xff    1",
+                    number: 10,
+                    column: 1,
+                },
+                Faulty {
+                    line: b"\0",
+                    number: 10,
+                    column: 1,
+                },
+                Faulty {
+                    line: b"G",
+                    number: 11,
+                    column: 2,
+                },
+                Faulty {
+                    line: b"G    ",
+                    number: 11,
+                    column: 6,
+                },
+                Faulty {
+                    line: b"G    1 ",
+                    number: 11,
+                    column: 7,
+                },
+                Faulty {
+                    line: b"G    1\r",
+                    number: 11,
+                    column: 7,
+                },
+                Faulty {
+                    line: b"T    1",
+                    number: 11,
+                    column: 7,
+                },
+                Faulty {
+                    line: b"T    1  0    7    ",
+                    number: 11,
+                    column: 19,
+                },
+                Faulty {
+                    line: b"T    1  0    7    0 ",
+                    number: 11,
+                    column: 20,
+                },
+                Faulty {
+                    line: b"S    1  0    7    0",
+                    number: 11,
+                    column: 7,
+                },
+            ],
+        )
     }
 
     #[test]
     fn spaces() -> Result<(), Fail> {
-        check_faults(&[
-            Faulty { line: b"T1   1  0    7    0", number: 12, column: 2 },
-            Faulty { line: b"T    1, 0    7    0", number: 12, column: 7 },
-            Faulty { line: b"T    1  0\x00   7    0", number: 12, column: 10 },
-            Faulty { line: b"T    1  0    7-   0", number: 12, column: 15 },
-            Faulty { line: b"T    1, 0    7-   0", number: 12, column: 7 },
-            Faulty { line: b"Tx  01, 0    7-  00", number: 12, column: 2 },
-            Faulty { line: b"A.   1", number: 12, column: 2 },
-            Faulty { line: b"S\t  07", number: 12, column: 2 },
-        ])
+        check_faults(
+            &[
+                Faulty {
+                    line: b"T1   1  0    7    0",
+                    number: 12,
+                    column: 2,
+                },
+                Faulty {
+                    line: b"T    1, 0    7    0",
+                    number: 12,
+                    column: 7,
+                },
+                Faulty {
+                    line: b"T    1  0\x00   7    0",
+                    number: 12,
+                    column: 10,
+                },
+                Faulty {
+                    line: b"T    1  0    7-   0",
+                    number: 12,
+                    column: 15,
+                },
+                Faulty {
+                    line: b"T    1, 0    7-   0",
+                    number: 12,
+                    column: 7,
+                },
+                Faulty {
+                    line: b"Tx  01, 0    7-  00",
+                    number: 12,
+                    column: 2,
+                },
+                Faulty {
+                    line: b"A.   1",
+                    number: 12,
+                    column: 2,
+                },
+                Faulty {
+                    line: b"S\t  07",
+                    number: 12,
+                    column: 2,
+                },
+            ],
+        )
     }
 
     #[test]
     fn fields() -> Result<(), Fail> {
-        check_faults(&[
-            Faulty { line: b"G     ", number: 13, column: 3 },
-            Faulty { line: b"G 0000", number: 13, column: 3 },
-            Faulty { line: b"G   07", number: 13, column: 3 },
-            Faulty { line: b"G 7   ", number: 13, column: 3 },
-            Faulty { line: b"G 1  2", number: 13, column: 3 },
-            Faulty { line: b"G   -7", number: 13, column: 3 },
-            Faulty { line: b"G   7a", number: 13, column: 3 },
-            Faulty { line: b"G   \x007", number: 13, column: 3 },
-            Faulty { line: b"G   \xff7", number: 13, column: 3 },
-            Faulty { line: b"G   /1", number: 13, column: 3 },
-            Faulty { line: b"G   1:", number: 13, column: 3 },
-            Faulty { line: b"T    1 00    7    0", number: 13, column: 8 },
-            Faulty { line: b"T    1       7    0", number: 13, column: 8 },
-            Faulty { line: b"T    1  0   07    0", number: 13, column: 11 },
-            Faulty { line: b"T    1  0    7   0 ", number: 13, column: 16 },
-            Faulty { line: b"T    1 0     7   0 ", number: 13, column: 8 },
-        ])
+        check_faults(
+            &[
+                Faulty {
+                    line: b"G     ",
+                    number: 13,
+                    column: 3,
+                },
+                Faulty {
+                    line: b"G 0000",
+                    number: 13,
+                    column: 3,
+                },
+                Faulty {
+                    line: b"G   07",
+                    number: 13,
+                    column: 3,
+                },
+                Faulty {
+                    line: b"G 7   ",
+                    number: 13,
+                    column: 3,
+                },
+                Faulty {
+                    line: b"G 1  2",
+                    number: 13,
+                    column: 3,
+                },
+                Faulty {
+                    line: b"G   -7",
+                    number: 13,
+                    column: 3,
+                },
+                Faulty {
+                    line: b"G   7a",
+                    number: 13,
+                    column: 3,
+                },
+                Faulty {
+                    line: b"G   \x007",
+                    number: 13,
+                    column: 3,
+                },
+                Faulty {
+                    line: b"G   \xff7",
+                    number: 13,
+                    column: 3,
+                },
+                Faulty {
+                    line: b"G   /1",
+                    number: 13,
+                    column: 3,
+                },
+                Faulty {
+                    line: b"G   1:",
+                    number: 13,
+                    column: 3,
+                },
+                Faulty {
+                    line: b"T    1 00    7    0",
+                    number: 13,
+                    column: 8,
+                },
+                Faulty {
+                    line: b"T    1       7    0",
+                    number: 13,
+                    column: 8,
+                },
+                Faulty {
+                    line: b"T    1  0   07    0",
+                    number: 13,
+                    column: 11,
+                },
+                Faulty {
+                    line: b"T    1  0    7   0 ",
+                    number: 13,
+                    column: 16,
+                },
+                Faulty {
+                    line: b"T    1 0     7   0 ",
+                    number: 13,
+                    column: 8,
+                },
+            ],
+        )
     }
 
     // The line is read as some record, which is written as that line again, in just enough bytes and no fewer.
@@ -102,7 +256,10 @@ mod tests {
             Ok(said) => {
                 let mut out = [b'#'; 24];
                 let few = line.len() - 1;
-                check_eq(said.line_of(&mut out[0..few]), Err(TooShort { needed: line.len() }))?;
+                check_eq(
+                    said.line_of(&mut out[0..few]),
+                    Err(TooShort { needed: line.len() }),
+                )?;
                 check_eq(out, [b'#'; 24])?;
                 check_eq(said.line_of(&mut out), Ok(line.len()))?;
                 check_eq(&out[0..line.len()], line)?;
@@ -137,7 +294,15 @@ mod tests {
         let kind = Number { value: 3 };
         let left = Number { value: 4 };
         let right = Number { value: 9999 };
-        check_eq(read_line(b"T   12  3    4 9999"), Ok(Record::Term { row, kind, left, right }))
+        check_eq(
+            read_line(b"T   12  3    4 9999"),
+            Ok(Record::Term {
+                row,
+                kind,
+                left,
+                right,
+            }),
+        )
     }
 
     // A text with so many lines of each kind: a term takes 20 bytes, a given mark 7.

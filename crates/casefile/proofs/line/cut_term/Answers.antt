@@ -34,13 +34,13 @@ returns c =
     let b1 = first-byte t _ 5 (q .0) in
     let b2 = first-byte t _ 8 (q .1) in
     let b3 = first-byte t _ 13 (q .2) in
-    let row = c .split-at .ensures .front ∙ part-behind t t 0 refl 4 in
-    let kind = c .split-at-2 .ensures .front ∙ part-behind t _ 5 (q .0) 2 in
-    let left = c .split-at-3 .ensures .front ∙ part-behind t _ 8 (q .1) 4 in
-    let right = last-behind t _ 13 (q .2) 4 (search needs) in
+    let row = c .field-at .ensures 4 ∙ ap (λ l. (4, 3, l)) (c .split-at .ensures .front ∙ part-behind t t 0 refl 4) in
+    let kind = c .field-at-2 .ensures 2 ∙ ap (λ l. (2, 8, l)) (c .split-at-2 .ensures .front ∙ part-behind t _ 5 (q .0) 2) in
+    let left = c .field-at-3 .ensures 4 ∙ ap (λ l. (4, 11, l)) (c .split-at-3 .ensures .front ∙ part-behind t _ 8 (q .1) 4) in
+    let right = c .field-at-4 .ensures 4 ∙ ap (λ l. (4, 16, l)) (last-behind t _ 13 (q .2) 4 (search needs)) in
     record {
       begins = refl;
       right = search needs;
       spaced = (search needs, (search needs, (search needs, (search needs, tt))));
-      parts = λ i. (4, 3, row i) ∷ (2, 8, kind i) ∷ (4, 11, left i) ∷ (4, 16, right i) ∷ [];
+      parts = λ i. row i ∷ kind i ∷ left i ∷ right i ∷ [];
     }

@@ -33,16 +33,16 @@ pub enum TextFault {
 pub impl From<FieldFault> for LineFault as LineFromField {
     ghost converts = { λ e r. r ≡ BadField e };
 
-    fn from(fault: FieldFault) -> LineFault {
-        LineFault::BadField(fault)
+    fn from(field: FieldFault) -> LineFault {
+        LineFault::BadField(field)
     }
 }
 
 pub impl From<LineFault> for TextFault as TextFromLine {
     ghost converts = { λ e r. r ≡ OfLine e };
 
-    fn from(fault: LineFault) -> TextFault {
-        TextFault::Line(fault)
+    fn from(line: LineFault) -> TextFault {
+        TextFault::Line(line)
     }
 }
 

@@ -26,42 +26,16 @@ impl Summary {
         }
     }
 
-    // The counts with one more record.
-    fn with(self, said: Record) -> Summary
-        requires { ⌜ self .terms + self .given + self .asks + self .shows < 99999 ⌝ }
-        ensures { λ r. ⌜ Adds self said r ⌝ }
+    // Counts one record more.
+    fn count(&mut self, said: Record)
+        requires { ⌜ now self .terms + now self .given + now self .asks + now self .shows < 99999 ⌝ }
+        ensures { λ _. ⌜ Adds (now (self .entry)) said (now (self .exit)) ⌝ }
     {
-        let Summary {
-            terms,
-            given,
-            asks,
-            shows,
-        } = self;
         match said {
-            Record::Term { .. } => Summary {
-                terms: terms + 1,
-                given,
-                asks,
-                shows,
-            },
-            Record::Given { .. } => Summary {
-                terms,
-                given: given + 1,
-                asks,
-                shows,
-            },
-            Record::Ask { .. } => Summary {
-                terms,
-                given,
-                asks: asks + 1,
-                shows,
-            },
-            Record::Show { .. } => Summary {
-                terms,
-                given,
-                asks,
-                shows: shows + 1,
-            },
+            Record::Term { .. } => self.terms += 1,
+            Record::Given { .. } => self.given += 1,
+            Record::Ask { .. } => self.asks += 1,
+            Record::Show { .. } => self.shows += 1,
         }
     }
 
@@ -113,7 +87,7 @@ pub fn check_text(text: &[u8]) -> Result<Summary, Refusal>
         match first_record(rest) {
             Ok(first) => {
                 let (said, used) = first;
-                held = held.with(said);
+                held.count(said);
                 rest = &rest[used..];
             }
             Err(fault) => return Err(Refusal {

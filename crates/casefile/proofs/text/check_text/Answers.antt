@@ -18,8 +18,8 @@ returns-then-text-gt-LIMIT c =
     let answer : Refused (c .args .text .now) 0 TooLong = (search needs, refl) in
     record { answer = answer; only = λ q other. checked-same (c .args .text .now) _ q answer other }
 
-pub with-held-requires : need.with-held-requires
-with-held-requires c κs =
+pub count-requires : need.count-requires
+count-requires c κs =
     let inv = c .loop-rest .inv in
     omega (arith, few-lines _ _ _ _ (search needs) (inv .1) (inv .2))
 
@@ -27,7 +27,7 @@ pub loop-rest-again : need.loop-rest-again
 loop-rest-again c =
     let inv = c .loop-rest .inv in
     let used = sym (take-rest (c .loop-rest .rest .now) (c .in-Ok .first .1)) in
-    one-more _ _ _ (inv .0) _ _ _ (inv .1) (inv .2) (c .in-Ok .ensures tt .1 ∙ ap (λ l. lineOf (c .in-Ok .first .0) ++ 10 ∷ l) used) (c .with-held .ensures)
+    one-more _ _ _ (inv .0) _ _ _ (inv .1) (inv .2) (c .in-Ok .ensures tt .1 ∙ ap (λ l. lineOf (c .in-Ok .first .0) ++ 10 ∷ l) used) (c .count .ensures)
 
 pub ghost-result-in-Err : need.ghost-result-in-Err
 ghost-result-in-Err c =

@@ -19,7 +19,7 @@ use Rattle.casefile.specs.declared.line.Record.{Record}
 use Rattle.casefile.specs.declared.line.Record.the-variants.{Term, Given, Ask, Show}
 use Rattle.casefile.specs.declared.refusal.Refusal.{Refusal}
 use Rattle.casefile.specs.declared.summary.Summary.{Summary}
-use Rattle.casefile.specs.Faults.{columnOf}
+use Rattle.casefile.specs.Faults.{reportOf}
 use Rattle.casefile.specs.Fields.{digit, mark, front, fieldOf}
 use Rattle.casefile.specs.Questions.{Fails}
 use Rattle.casefile.specs.Records.{texts, spaced, lineOf}
@@ -151,7 +151,7 @@ refusal-same d e p q =
       line = p i;
       fault = q i;
       low = isProp→PathP (λ k. p k < 100000) (λ k. le-prop) (d .low) (e .low) i;
-      narrow = isProp→PathP (λ k. columnOf (q k) < 100) (λ k. le-prop) (d .narrow) (e .narrow) i;
+      narrow = isProp→PathP (λ k. reportOf (q k) .column < 100) (λ k. le-prop) (d .narrow) (e .narrow) i;
     }
 
 summary-same : (rs : List Record) (r s : Summary) → Holds rs r → Holds rs s → r ≡ s

@@ -7,7 +7,11 @@ use native.Mathlib.Nat.{pow-suc, pow-le-pow-right}
 use native.Mathlib.Numerals.{add-one}
 use native.Mathlib.Omega.{arith}
 use lib.ListN.{length, replicate}
+use Rattle.std.specs.Options.{Cases}
+use Rattle.std.specs.Slices.{found}
 use Rattle.std.specs.Written.{decimal}
+use Rattle.std.specs.declared.option.Option.{Option}
+use Rattle.std.specs.declared.option.Option.the-variants.{Some, None}
 use Rattle.std.proofs.shelf.Decimals.{decimal-by-steps}
 use Rattle.std.proofs.shelf.Lists.{replicate-more, length-push}
 use Rattle.std.proofs.shelf.Tests.{cases-eq}
@@ -52,3 +56,12 @@ field-justified w n some few small =
     let wide : w ≡ suc (w - 1) = omega arith in
     let low : n < 2 ^ 64 = omega (arith, pow-le-pow-right {n = 10} (omega arith) {i = w} {j = 9} few) in
     fills n low (w - 1) (subst (λ (k : ℕ). n < 10 ^ k) wide small) ∙ ap (λ (k : ℕ). replicate (k - length (decimal n)) 32 ++ decimal n) (sym wide)
+
+-- what is read of a text, by its width
+pub as-wide : (t : List ℕ) (w : ℕ) → length t ≡ w → w ≤ 9 → (r : Option ℕ) → Cases r ((n : ℕ) → n < 10 ^ length t → t ≡ fieldOf (length t) n → ⊥) (λ n. (n < 10 ^ length t) × (t ≡ fieldOf (length t) n)) → found r (λ n. t ≡ justified w n) × Cases r ((n : ℕ) → 0 < w → w ≤ 9 → n < 10 ^ w → t ≡ fieldOf w n → ⊥) (λ n. (0 < w) × (w ≤ 9) × (n < 10 ^ w) × (t ≡ fieldOf w n))
+as-wide t w long few None h = (tt, λ n some wide small is. h n (subst (λ (k : ℕ). n < 10 ^ k) (sym long) small) (is ∙ ap (λ (k : ℕ). fieldOf k n) (sym long)))
+as-wide t w long few (Some n) h =
+    let small = subst (λ (k : ℕ). n < 10 ^ k) long (h .0) in
+    let is = h .1 ∙ ap (λ (k : ℕ). fieldOf k n) long in
+    let some : 0 < w = omega (arith, ap length is, length-push (front (w - 1) (n / 10)) (digit n)) in
+    (is ∙ field-justified w n some few small, (some, few, small, is))

@@ -18,7 +18,7 @@ use Rattle.casefile.specs.declared.layout.Letter.the-variants as letters
 use Rattle.casefile.specs.declared.line.Record.{Record}
 use Rattle.casefile.specs.declared.line.Record.the-variants.{Term, Given, Ask, Show}
 use Rattle.casefile.specs.declared.summary.Summary.{Summary}
-use Rattle.casefile.specs.Faults.{columnOf}
+use Rattle.casefile.specs.Faults.{reportOf}
 use Rattle.casefile.specs.Layout.{widths, long, spaces, fields}
 use Rattle.casefile.specs.Questions.{FirstBad, Fails}
 use Rattle.casefile.specs.Records.{lineOf}
@@ -87,13 +87,13 @@ narrow letters.Given = (omega arith, (omega arith, tt), (omega arith, tt))
 narrow letters.Ask = (omega arith, (omega arith, tt), (omega arith, tt))
 narrow letters.Show = (omega arith, (omega arith, tt), (omega arith, tt))
 
-line-column : (t : List ℕ) (f : LineFault) → Fails t f → columnOf (Line f) < 100
+line-column : (t : List ℕ) (f : LineFault) → Fails t f → reportOf (Line f) .column < 100
 line-column t NoLetter h = omega arith
 line-column t (WrongLength c) h = omega (arith, h .3, narrow (h .0) .0)
 line-column t (NoSpace c) h = first-in _ _ (spaces (h .0)) c (narrow (h .0) .1) (h .3)
 line-column t (BadField f) h = first-in _ (λ (p : ℕ × ℕ). p .0 < 100) (fields (h .0)) (f .column, h .4 .0) (narrow (h .0) .2) (h .4 .1)
 
-pub first-column : (t : List ℕ) (f : TextFault) → FirstFault t f → columnOf f < 100
+pub first-column : (t : List ℕ) (f : TextFault) → FirstFault t f → reportOf f .column < 100
 first-column t TooLong h = omega arith
 first-column t NoNewline h = omega arith
 first-column t (Line f) h = line-column (h .0) f (h .3)

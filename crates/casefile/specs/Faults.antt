@@ -1,25 +1,18 @@
--- The number, the column and the layer that each fault is reported by.
+-- What is reported of each fault: its column, its layer and the number of its question.
 use Prim.Native.Nat.{ℕ}
 use Rattle.casefile.specs.declared.fault.LineFault.the-variants.{NoLetter, WrongLength, NoSpace, BadField}
+use Rattle.casefile.specs.declared.fault.Report.{Report}
 use Rattle.casefile.specs.declared.fault.TextFault.{TextFault}
 use Rattle.casefile.specs.declared.fault.TextFault.the-variants.{TooLong, NoNewline, Line}
 
-abbrev pub numberOf : TextFault → ℕ
-numberOf TooLong = 16
-numberOf NoNewline = 15
-numberOf (Line NoLetter) = 10
-numberOf (Line (WrongLength c)) = 11
-numberOf (Line (NoSpace c)) = 12
-numberOf (Line (BadField f)) = 13
+-- a fault of the text, which is layer 1
+abbrev pub inText : ℕ → ℕ → Report
+inText c n = record { column = c; layer = 1; number = n }
 
-abbrev pub columnOf : TextFault → ℕ
-columnOf TooLong = 0
-columnOf NoNewline = 0
-columnOf (Line NoLetter) = 1
-columnOf (Line (WrongLength c)) = c
-columnOf (Line (NoSpace c)) = c
-columnOf (Line (BadField f)) = f .column
-
--- every fault of the text belongs to layer 1
-abbrev pub layerOf : TextFault → ℕ
-layerOf f = 1
+abbrev pub reportOf : TextFault → Report
+reportOf TooLong = inText 0 16
+reportOf NoNewline = inText 0 15
+reportOf (Line NoLetter) = inText 1 10
+reportOf (Line (WrongLength c)) = inText c 11
+reportOf (Line (NoSpace c)) = inText c 12
+reportOf (Line (BadField f)) = inText (f .column) 13

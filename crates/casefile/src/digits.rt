@@ -3,7 +3,9 @@ ghost use mathlib.Core.Path.{_≡_};
 ghost use Prim.Native.Nat.{ℕ, _+_, _*_, _/_, _%_, _<_, _≤_, _^_};
 ghost use lib.ListN.{length};
 ghost use Rattle.std.specs.Options.{Cases};
-ghost use Rattle.casefile.specs.Fields.{digit, mark, front, fieldOf};
+ghost use Rattle.std.specs.Slices.{found};
+ghost use Rattle.casefile.specs.Fields.{digit, mark, front, fieldOf, justified};
+use super::number::WIDEST;
 
 // One more column before the last: `above` is what stands before it, 0 where all is blank.
 fn next(above: u32, byte: u8) -> Option<u32>
@@ -55,8 +57,8 @@ fn read_front(text: &[u8]) -> Option<u32>
     next(above, *byte)
 }
 
-// The number whose field this text is.
-pub fn read_number(text: &[u8]) -> Option<u32>
+// The number whose columns these are, of a field that is as wide as the text.
+fn read_columns(text: &[u8]) -> Option<u32>
     requires { ⌜ length (now text) ≤ 9 ⌝ }
     ensures { λ r. ⌜ Cases r ((n : ℕ) → n < 10 ^ length (now (text .entry)) → now (text .entry) ≡ fieldOf (length (now (text .entry))) n → ⊥) (λ n. (n < 10 ^ length (now (text .entry))) × (now (text .entry) ≡ fieldOf (length (now (text .entry))) n)) ⌝ }
 {
@@ -65,6 +67,17 @@ pub fn read_number(text: &[u8]) -> Option<u32>
     };
     let above = read_front(rest)?;
     last(above, *byte)
+}
+
+// The number whose field of `width` columns this text is.
+pub fn read_number(text: &[u8], width: usize) -> Option<u32>
+    ensures digits { λ r. ⌜ found r (λ n. now (text .entry) ≡ justified width n) ⌝ }
+    ensures answer { λ r. ⌜ Cases r ((n : ℕ) → 0 < width → width ≤ 9 → n < 10 ^ width → now (text .entry) ≡ fieldOf width n → ⊥) (λ n. (0 < width) × (width ≤ 9) × (n < 10 ^ width) × (now (text .entry) ≡ fieldOf width n)) ⌝ }
+{
+    if text.len() != width || width > WIDEST {
+        return None;
+    }
+    read_columns(text)
 }
 
 // Writes the columns before the last one.

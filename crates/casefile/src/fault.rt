@@ -2,7 +2,7 @@
 ghost use mathlib.Core.Path.{_≡_};
 ghost use Rattle.casefile.specs.declared.fault.LineFault.the-variants.{BadField};
 ghost use Rattle.casefile.specs.declared.fault.TextFault.the-variants.{Line as OfLine};
-ghost use Rattle.casefile.specs.Faults.{numberOf, columnOf, layerOf};
+ghost use Rattle.casefile.specs.Faults.{reportOf};
 
 // The layer of every fault that the text alone shows.
 const TEXT_LAYER: u8 = 1;
@@ -30,11 +30,19 @@ pub enum TextFault {
     Line(LineFault),
 }
 
+// What is reported of a fault: the column, 0 where no column is at fault, the layer, and the number of the question.
+#[derive(Clone, Copy, PartialEq, Eq, Debug)]
+pub struct Report {
+    pub column: usize,
+    pub layer: u8,
+    pub number: u8,
+}
+
 pub impl From<FieldFault> for LineFault as LineFromField {
     ghost converts = { λ e r. r ≡ BadField e };
 
-    fn from(field: FieldFault) -> LineFault {
-        LineFault::BadField(field)
+    fn from(bad: FieldFault) -> LineFault {
+        LineFault::BadField(bad)
     }
 }
 
@@ -47,38 +55,22 @@ pub impl From<LineFault> for TextFault as TextFromLine {
 }
 
 impl TextFault {
-    // The number of the question.
-    pub fn number(&self) -> u8
-        ensures { λ r. ⌜ r ≡ numberOf (now (self .entry)) ⌝ }
+    // What is reported of the fault.
+    pub fn report(&self) -> Report
+        ensures { λ r. ⌜ r ≡ reportOf (now (self .entry)) ⌝ }
     {
-        match self {
-            TextFault::TooLong => 16,
-            TextFault::NoNewline => 15,
-            TextFault::Line(LineFault::NoLetter) => 10,
-            TextFault::Line(LineFault::WrongLength(_)) => 11,
-            TextFault::Line(LineFault::NoSpace(_)) => 12,
-            TextFault::Line(LineFault::BadField(_)) => 13,
+        let (column, number) = match self {
+            TextFault::TooLong => (0, 16),
+            TextFault::NoNewline => (0, 15),
+            TextFault::Line(LineFault::NoLetter) => (1, 10),
+            TextFault::Line(LineFault::WrongLength(column)) => (*column, 11),
+            TextFault::Line(LineFault::NoSpace(column)) => (*column, 12),
+            TextFault::Line(LineFault::BadField(field)) => (field.column, 13),
+        };
+        Report {
+            column,
+            layer: TEXT_LAYER,
+            number,
         }
-    }
-
-    // The column, 0 where no single column is at fault.
-    pub fn column(&self) -> usize
-        ensures { λ r. ⌜ r ≡ columnOf (now (self .entry)) ⌝ }
-    {
-        match self {
-            TextFault::TooLong => 0,
-            TextFault::NoNewline => 0,
-            TextFault::Line(LineFault::NoLetter) => 1,
-            TextFault::Line(LineFault::WrongLength(column)) => *column,
-            TextFault::Line(LineFault::NoSpace(column)) => *column,
-            TextFault::Line(LineFault::BadField(fault)) => fault.column,
-        }
-    }
-
-    // The layer that the question belongs to: the text.
-    pub fn layer(&self) -> u8
-        ensures { λ r. ⌜ r ≡ layerOf (now (self .entry)) ⌝ }
-    {
-        TEXT_LAYER
     }
 }

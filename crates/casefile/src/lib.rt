@@ -12,6 +12,7 @@ mod write;
 
 pub use fault::FieldFault;
 pub use fault::LineFault;
+pub use fault::Report;
 pub use fault::TextFault;
 pub use layout::LIMIT;
 pub use line::Field;

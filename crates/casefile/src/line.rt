@@ -29,7 +29,6 @@ use super::number::Number;
 use super::number::NumberDebug;
 use super::number::NumberEq;
 use super::number::NumberPartialEq;
-use super::number::WIDEST;
 
 // A part of a line that should hold a number, and the column where it begins.
 #[derive(Clone, Copy)]
@@ -84,14 +83,10 @@ impl Field<'_> {
         ensures digits { λ r. ⌜ made r (λ n. now (now (self .entry) .text) ≡ justified W (n .value)) ⌝ }
         ensures answer { λ r. ⌜ ReadsField W (now (self .entry) .column) (now (now (self .entry) .text)) r ⌝ }
     {
-        let fault = FieldFault {
-            column: self.column,
-        };
-        if self.text.len() != W || W > WIDEST {
-            return Err(fault);
-        }
-        let Some(value) = read_number(self.text) else {
-            return Err(fault);
+        let Some(value) = read_number(self.text, W) else {
+            return Err(FieldFault {
+                column: self.column,
+            });
         };
         Ok(Number { value })
     }

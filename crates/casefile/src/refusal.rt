@@ -1,6 +1,6 @@
 // A fault with the line that it is in.
 ghost use Prim.Native.Nat.{_<_};
-ghost use Rattle.casefile.specs.Faults.{columnOf};
+ghost use Rattle.casefile.specs.Faults.{reportOf};
 use super::fault::TextFault;
 use super::fault::TextFaultDebug;
 use super::fault::TextFaultEq;
@@ -12,5 +12,5 @@ pub struct Refusal {
     pub line: usize,
     pub fault: TextFault,
     ghost low: { line < 100000 },
-    ghost narrow: { columnOf fault < 100 },
+    ghost narrow: { reportOf fault .column < 100 },
 }

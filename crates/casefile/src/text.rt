@@ -2,9 +2,10 @@
 ghost use mathlib.Core.Path.{_≡_};
 ghost use mathlib.Core.List.{List, [], _∷_, _++_};
 ghost use Prim.Native.Nat.{ℕ, _+_, _<_, _≤_};
+ghost use lib.ListN.{length};
 ghost use Rattle.std.specs.Options.{Cases};
 ghost use Rattle.std.specs.declared.result.Result.{Result};
-ghost use Rattle.casefile.specs.Texts.{OneLine, Cut, FirstReads, Holds, Adds, Checked};
+ghost use Rattle.casefile.specs.Texts.{limit, OneLine, Cut, FirstReads, Holds, Adds, Checked};
 use super::fault::TextFault;
 use super::fault::TextFromLine;
 use super::layout::LIMIT;
@@ -40,7 +41,7 @@ impl Summary {
     }
 
     // How many lines are counted.
-    pub fn lines(&self) -> usize
+    fn lines(&self) -> usize
         ensures { λ r. ⌜ r ≡ now (self .entry) .terms + now (self .entry) .given + now (self .entry) .asks + now (self .entry) .shows ⌝ }
     {
         self.terms + self.given + self.asks + self.shows
@@ -70,17 +71,11 @@ pub fn first_record(text: &[u8]) -> Result<(Record, usize), TextFault>
     Ok((said, line.len() + 1))
 }
 
-// What a text holds, or its first fault and the line that has it.
-pub fn check_text(text: &[u8]) -> Result<Summary, Refusal>
-    ensures answer { λ r. ⌜ Checked (now (text .entry)) r ⌝ }
-    ensures only { λ r. ⌜ ((q : Result Summary Refusal) → Checked (now (text .entry)) q → r ≡ q) ⌝ }
+// The counts of a text that is not too long, or its first fault and the line that has it.
+fn check_lines(text: &[u8]) -> Result<Summary, Refusal>
+    requires { ⌜ length (now text) ≤ limit ⌝ }
+    ensures { λ r. ⌜ Checked (now (text .entry)) r ⌝ }
 {
-    if text.len() > LIMIT {
-        return Err(Refusal {
-            line: 0,
-            fault: TextFault::TooLong,
-        });
-    }
     let mut held = Summary::new();
     let mut rest = text;
     while !rest.is_empty() {
@@ -90,11 +85,23 @@ pub fn check_text(text: &[u8]) -> Result<Summary, Refusal>
                 held.count(said);
                 rest = &rest[used..];
             }
-            Err(fault) => return Err(Refusal {
-                line: held.lines() + 1,
-                fault,
-            }),
+            Err(fault) => {
+                let line = held.lines() + 1;
+                return Err(Refusal { line, fault });
+            }
         }
     }
     Ok(held)
+}
+
+// What a text holds, or its first fault and the line that has it.
+pub fn check_text(text: &[u8]) -> Result<Summary, Refusal>
+    ensures answer { λ r. ⌜ Checked (now (text .entry)) r ⌝ }
+    ensures only { λ r. ⌜ ((q : Result Summary Refusal) → Checked (now (text .entry)) q → r ≡ q) ⌝ }
+{
+    if text.len() > LIMIT {
+        let fault = TextFault::TooLong;
+        return Err(Refusal { line: 0, fault });
+    }
+    check_lines(text)
 }

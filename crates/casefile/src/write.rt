@@ -1,7 +1,7 @@
 // What is written: a record's line, and the lines that the program prints.
 ghost use mathlib.Core.List.{[], _∷_, _++_};
 ghost use mathlib.Core.Path.{_≡_};
-ghost use Rattle.casefile.specs.Printed.{refusalLine, summaryLine};
+ghost use Rattle.casefile.specs.Printed.{refusalLine, countsLine, summaryLine};
 ghost use Rattle.casefile.specs.Put.{Wrote};
 ghost use Rattle.casefile.specs.Records.{lineOf};
 use super::layout::COUNT_WIDTH;
@@ -52,17 +52,18 @@ impl Refusal {
     pub fn printed(&self) -> [u8; FAULT_LENGTH]
         ensures { λ r. ⌜ r ≡ refusalLine (now (self .entry)) ++ 10 ∷ [] ⌝ }
     {
+        let report = self.fault.report();
         let line = Number::<COUNT_WIDTH> {
             value: self.line as u32,
         };
         let column = Number::<2> {
-            value: self.fault.column() as u32,
+            value: report.column as u32,
         };
         let layer = Number::<1> {
-            value: u32::from(self.fault.layer()),
+            value: u32::from(report.layer),
         };
         let number = Number::<2> {
-            value: u32::from(self.fault.number()),
+            value: u32::from(report.number),
         };
         let slots = [line.slot(), column.slot(), layer.slot(), number.slot()];
         let mut out = [0; FAULT_LENGTH];
@@ -71,26 +72,38 @@ impl Refusal {
     }
 }
 
+// The counts of lines of each letter, with a newline.
+fn counts_line(
+    terms: Number<COUNT_WIDTH>,
+    given: Number<COUNT_WIDTH>,
+    asks: Number<COUNT_WIDTH>,
+    shows: Number<COUNT_WIDTH>,
+) -> [u8; COUNTS_LENGTH]
+    ensures { λ r. ⌜ r ≡ countsLine (terms .value) (given .value) (asks .value) (shows .value) ++ 10 ∷ [] ⌝ }
+{
+    let slots = [terms.slot(), given.slot(), asks.slot(), shows.slot()];
+    let mut out = [0; COUNTS_LENGTH];
+    fill_ended(&mut out, COUNTS, &slots);
+    out
+}
+
 impl Summary {
     // The summary line, with its newline.
     pub fn printed(&self) -> [u8; COUNTS_LENGTH]
         ensures { λ r. ⌜ r ≡ summaryLine (now (self .entry)) ++ 10 ∷ [] ⌝ }
     {
-        let terms = Number::<COUNT_WIDTH> {
+        let terms = Number {
             value: self.terms as u32,
         };
-        let given = Number::<COUNT_WIDTH> {
+        let given = Number {
             value: self.given as u32,
         };
-        let asks = Number::<COUNT_WIDTH> {
+        let asks = Number {
             value: self.asks as u32,
         };
-        let shows = Number::<COUNT_WIDTH> {
+        let shows = Number {
             value: self.shows as u32,
         };
-        let slots = [terms.slot(), given.slot(), asks.slot(), shows.slot()];
-        let mut out = [0; COUNTS_LENGTH];
-        fill_ended(&mut out, COUNTS, &slots);
-        out
+        counts_line(terms, given, asks, shows)
     }
 }

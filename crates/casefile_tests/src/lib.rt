@@ -31,9 +31,9 @@ mod tests {
             match read_line(row.line) {
                 Ok(_) => return Err(Fail::new("a faulty line is accepted")),
                 Err(fault) => {
-                    let fault = TextFault::Line(fault);
-                    check_eq(fault.number(), row.number)?;
-                    check_eq(fault.column(), row.column)?;
+                    let report = TextFault::Line(fault).report();
+                    check_eq(report.number, row.number)?;
+                    check_eq(report.column, row.column)?;
                 }
             }
         }
@@ -339,7 +339,7 @@ mod tests {
     #[test]
     fn texts() -> Result<(), Fail> {
         match check_text(b"") {
-            Ok(held) => check_eq(held.lines(), 0)?,
+            Ok(held) => check_eq(held.printed(), *b"C     0     0     0     0\n")?,
             Err(_) => return Err(Fail::new("the empty text is refused")),
         }
         refused(b"\n", b"F     1  1 1 10\n")?;

@@ -1,28 +1,19 @@
-use mathlib.Core.Path.{_≡_, refl, sym, ap, subst, _∙_}
-use Prim.Native.Nat.{ℕ, suc, _-_, _<_, _≤_, _^_}
+use mathlib.Core.Logic.{⊎-elim}
+use mathlib.Core.Path.{ap, _∙_}
 use native.Mathlib.Omega.{arith}
 use borrow.Author.Needs.{needs}
-use lib.ListN.{length, take}
-use Rattle.std.proofs.shelf.Lists.{length-take-le}
-use Rattle.casefile.specs.Fields.{digit}
-use Rattle.casefile.proofs.Columns.{none-above, some-above, eight-columns}
+use lib.ListN.{length}
+use Rattle.casefile.proofs.Columns.{length-fieldOf}
+use Rattle.casefile.proofs.Justified.{as-wide}
 use Rattle.casefile.proofs.digits.read_number.Needs as need
 
-pub returns-in-Break-above : need.returns-in-Break-above
-returns-in-Break-above c =
-    let text = c .args .text .now in
-    let long : length text ≡ suc (length text - 1) = search needs in
-    let short : length (take (length text - 1) text) ≡ length text - 1 = length-take-le _ text (omega arith) in
-    rw (c .from-residual .ensures) (none-above digit text _ _ long short (c .in-Break-above .ensures tt))
-
-pub last-requires : need.last-requires
-last-requires c κs =
-    eight-columns _ _ (search needs) (c .in-Continue-above .ensures tt .0)
+pub returns-then-text-width : need.returns-then-text-width
+returns-then-text-width c = record {
+  digits = tt;
+  answer = λ n some few small is. ⊎-elim (λ other. other (ap length is ∙ length-fieldOf (c .args .width) n some)) (λ wide. omega (arith, wide .1)) (c .then-text-width .either);
+}
 
 pub returns : need.returns
 returns c =
-    let text = c .args .text .now in
-    let long : length text ≡ suc (length text - 1) = search needs in
-    let short : length (take (length text - 1) text) ≡ length text - 1 = length-take-le _ text (omega arith) in
-    let above = c .in-Continue-above .ensures tt in
-    some-above digit text _ _ long short _ (above .0) (above .1) _ (c .last .ensures)
+    let told = as-wide (c .args .text .now) (c .args .width) (search needs) (search needs) (c .read-columns .result) (c .read-columns .ensures) in
+    record { digits = told .0; answer = told .1 }

@@ -1,3 +1,4 @@
+use borrow.Author.Needs.{needs}
 use Rattle.casefile.proofs.Readings.{is-line, field-fails, read-fails, reads-same}
 use Rattle.casefile.proofs.line.read_line.Needs as need
 
@@ -13,5 +14,5 @@ returns-in-Break-said c =
 
 pub returns : need.returns
 returns c =
-    let answer = is-line _ _ _ (c .in-Continue-line .ensures tt) (c .in-Continue-said .ensures tt) in
-    record { answer = answer; only = λ q other. reads-same (c .args .text .now) _ q answer other }
+    let whole = is-line _ _ _ (c .in-Continue-line .ensures tt) (c .in-Continue-said .ensures tt) in
+    record { answer = search needs; only = λ q other. reads-same (c .args .text .now) _ q whole other }

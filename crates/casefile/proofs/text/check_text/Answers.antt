@@ -1,16 +1,8 @@
-use mathlib.Core.List.{_∷_, _++_}
-use mathlib.Core.Path.{refl, sym, ap, _∙_}
-use native.Mathlib.Omega.{arith}
+use mathlib.Core.Path.{refl}
 use borrow.Author.Needs.{needs}
-use borrow.Author.Tests.{true-eqb, false-eqb}
-use lib.ListN.{length}
-use Rattle.std.proofs.shelf.Lists.{take-rest}
-use Rattle.casefile.specs.Records.{lineOf}
-use Rattle.std.specs.declared.result.Result.the-variants.{Ok}
 use Rattle.casefile.specs.declared.fault.TextFault.the-variants.{TooLong}
-use Rattle.casefile.specs.Texts.{Refused, Checked}
+use Rattle.casefile.specs.Texts.{Refused}
 use Rattle.casefile.proofs.Exact.{checked-same}
-use Rattle.casefile.proofs.Texts.{few-lines, one-more, first-column, refused-here, all-read}
 use Rattle.casefile.proofs.text.check_text.Needs as need
 
 pub returns-then-text-gt-LIMIT : need.returns-then-text-gt-LIMIT
@@ -18,33 +10,5 @@ returns-then-text-gt-LIMIT c =
     let answer : Refused (c .args .text .now) 0 TooLong = (search needs, refl) in
     record { answer = answer; only = λ q other. checked-same (c .args .text .now) _ q answer other }
 
-pub count-requires : need.count-requires
-count-requires c κs =
-    let inv = c .loop-rest .inv in
-    omega (arith, few-lines _ _ _ _ (search needs) (inv .1) (inv .2))
-
-pub loop-rest-again : need.loop-rest-again
-loop-rest-again c =
-    let inv = c .loop-rest .inv in
-    let used = sym (take-rest (c .loop-rest .rest .now) (c .in-Ok .first .1)) in
-    one-more _ _ _ (inv .0) _ _ _ (inv .1) (inv .2) (c .in-Ok .ensures tt .1 ∙ ap (λ l. lineOf (c .in-Ok .first .0) ++ 10 ∷ l) used) (c .count .ensures)
-
-pub ghost-result-in-Err : need.ghost-result-in-Err
-ghost-result-in-Err c =
-    let inv = c .loop-rest .inv in
-    let few = few-lines _ _ _ _ (search needs) (inv .1) (inv .2) in
-    (omega (arith, few, c .lines .ensures), (first-column _ _ (c .in-Err .ensures tt), tt))
-
-pub returns-in-Err : need.returns-in-Err
-returns-in-Err c =
-    let inv = c .loop-rest .inv in
-    let few = few-lines _ _ _ _ (search needs) (inv .1) (inv .2) in
-    let some = false-eqb _ 0 (c .loop-rest-test .ensures tt) in
-    let answer = refused-here _ _ _ (search needs, (inv .0, _, inv .1, omega (arith, few, c .lines .ensures), omega (arith, some), c .in-Err .ensures tt)) in
-    record { answer = answer; only = λ q other. checked-same (c .args .text .now) _ q answer other }
-
 pub returns : need.returns
-returns c =
-    let inv = c .loop-rest .inv in
-    let answer : Checked (c .args .text .now) (Ok (c .loop-rest .held)) = (search needs, (inv .0, all-read _ _ (inv .0) (inv .1) (true-eqb _ 0 (c .loop-rest-test .ensures tt)), inv .2)) in
-    record { answer = answer; only = λ q other. checked-same (c .args .text .now) _ q answer other }
+returns c = record { answer = c .check-lines .ensures; only = λ q other. checked-same (c .args .text .now) _ q (c .check-lines .ensures) other }

@@ -1,7 +1,7 @@
 use mathlib.Core.List.{[], _∷_, _++_}
 use mathlib.Core.Path.{_∙_}
 use Rattle.casefile.specs.Put.{slotted}
-use Rattle.casefile.proofs.summary.Summary.printed.Needs as need
+use Rattle.casefile.proofs.write.counts_line.Needs as need
 
 pub returns : need.returns
 returns c =

@@ -3,7 +3,7 @@ use mathlib.Core.Path.{_≡_}
 use lib.ListN.{length}
 use Rattle.casefile.specs.declared.line.Record.{Record}
 use Rattle.casefile.specs.Texts.{textOf, Holds}
-use Rattle.casefile.proofs.text.check_text.Given as given
+use Rattle.casefile.proofs.text.check_lines.Given as given
 
 -- the lines so far say records, which are counted
 abbrev pub Inv-loop-rest : given.InvT-loop-rest

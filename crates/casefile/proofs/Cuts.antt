@@ -6,7 +6,7 @@ use native.Mathlib.Nat.{add-zero}
 use native.Mathlib.Omega.{arith}
 use lib.ListN.{length, take, drop, getD, length-drop}
 use lib.Seq.{getD-drop}
-use Rattle.std.specs.Results.{Cases, ErrBy}
+use Rattle.std.specs.Results.{ErrBy}
 use Rattle.std.specs.declared.result.Result.{Result}
 use Rattle.std.specs.declared.result.Result.the-variants.{Ok, Err}
 use Rattle.std.proofs.shelf.Lists.{take-rest, take-all, drop-drop}
@@ -16,8 +16,8 @@ use Rattle.casefile.specs.declared.layout.Letter.the-variants.{Term, Given, As
 use Rattle.casefile.specs.declared.fault.LineFault.{LineFault}
 use Rattle.casefile.specs.declared.line.Line.{Line}
 use Rattle.casefile.specs.Layout.{byteOf, Begins}
-use Rattle.casefile.specs.Lines.{Apart}
-use Rattle.casefile.specs.Questions.{Fails}
+use Rattle.casefile.specs.Lines.{Cuts}
+use Rattle.casefile.specs.Questions.{Fails, BeforeFields}
 
 -- a text by its first byte, as a slice pattern leaves it
 pub headed : (t : List ℕ) (b : ℕ) → 0 < length t → getD t 0 0 ≡ b → b ∷ take (length t - 1) (drop 1 t) ≡ t
@@ -49,10 +49,10 @@ module _ (t q : List ℕ) (i : ℕ) (left : q ≡ drop i t) where
   last-behind w long = behind ∙ sym (take-all w (drop (i + 1) t) (simp length-drop (omega arith)))
 
 -- what is known of the bytes behind the letter holds of the line
-pub of-line : (t : List ℕ) (b : ℕ) → 0 < length t → getD t 0 0 ≡ b → (r : Result Line LineFault) → Cases r (Apart (b ∷ take (length t - 1) (drop 1 t))) (Fails (b ∷ take (length t - 1) (drop 1 t))) → Cases r (Apart t) (Fails t)
-of-line t b some is r h = subst (λ s. Cases r (Apart s) (Fails s)) (headed t b some is) h
+pub of-line : (t : List ℕ) (b : ℕ) → 0 < length t → getD t 0 0 ≡ b → (r : Result Line LineFault) → Cuts (b ∷ take (length t - 1) (drop 1 t)) r → Cuts t r
+of-line t b some is r h = subst (λ s. Cuts s r) (headed t b some is) h
 
 -- the same where a `?` hands the fault on
-pub refused : (t : List ℕ) (b : ℕ) → 0 < length t → getD t 0 0 ≡ b → (r : Result Line LineFault) (e : LineFault) → Fails (b ∷ take (length t - 1) (drop 1 t)) e → ErrBy r (λ y. y ≡ e) → Cases r (Apart t) (Fails t)
+pub refused : (t : List ℕ) (b : ℕ) → 0 < length t → getD t 0 0 ≡ b → (r : Result Line LineFault) (e : LineFault) → Fails (b ∷ take (length t - 1) (drop 1 t)) e × BeforeFields e → ErrBy r (λ y. y ≡ e) → Cuts t r
 refused t b some is (Ok line) e h said = absurd said
-refused t b some is (Err f) e h said = subst (Fails t) (sym said) (subst (λ s. Fails s e) (headed t b some is) h)
+refused t b some is (Err f) e h said = subst (λ y. Fails t y × BeforeFields y) (sym said) (subst (λ s. Fails s e) (headed t b some is) (h .0), h .1)

@@ -2,7 +2,10 @@
 use mathlib.Core.Path.{_≡_}
 use mathlib.Core.List.{List, [], _∷_, map}
 use Prim.Native.Nat.{ℕ}
+use Rattle.std.specs.declared.result.Result.{Result}
+use Rattle.std.specs.declared.result.Result.the-variants.{Ok, Err}
 use Rattle.std.specs.shelf.Lists.{All}
+use Rattle.casefile.specs.declared.fault.LineFault.{LineFault}
 use Rattle.casefile.specs.declared.layout.Letter.{Letter}
 use Rattle.casefile.specs.declared.layout.Letter.the-variants as letters
 use Rattle.casefile.specs.declared.line.Field.{Field}
@@ -11,7 +14,7 @@ use Rattle.casefile.specs.declared.line.Line.the-variants.{Term, Given, Ask, S
 use Rattle.casefile.specs.declared.line.Record.{Record}
 use Rattle.casefile.specs.Layout.{spaces, fields, Begins, RightLength, SpaceAt, partAt}
 use Rattle.casefile.specs.Records.{letterOf, texts}
-use Rattle.casefile.specs.Questions.{FirstBad, WellFormed}
+use Rattle.casefile.specs.Questions.{FirstBad, WellFormed, Fails, BeforeFields}
 
 abbrev pub letterIn : Line → Letter
 letterIn (Term row kind left right) = letters.Term
@@ -42,6 +45,11 @@ pub record Apart (t : List ℕ) (line : Line) : Type 0 where
   pub right : RightLength t (letterIn line)
   pub spaced : All (SpaceAt t) (spaces (letterIn line))
   pub parts : fieldsIn line ≡ map (placedAt t) (fields (letterIn line))
+
+-- what taking a line apart answers: its fields, or the fault of the first question before those on fields that it fails
+abbrev pub Cuts : List ℕ → Result Line LineFault → Type 0
+Cuts t (Ok line) = Apart t line
+Cuts t (Err e) = Fails t e × BeforeFields e
 
 -- the line has the record's letter, and its fields hold the record's numbers
 pub record Says (line : Line) (r : Record) : Type 0 where

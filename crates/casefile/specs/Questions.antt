@@ -38,6 +38,13 @@ Fails t (WrongLength c) = (l : Letter) × Begins t l × (RightLength t l → ⊥
 Fails t (NoSpace c) = (l : Letter) × Begins t l × RightLength t l × FirstBad (SpaceAt t) (spaces l) c
 Fails t (BadField f) = (l : Letter) × Begins t l × RightLength t l × All (SpaceAt t) (spaces l) × ((w : ℕ) × FirstBad (λ p. WellFormed (p .1) (partAt t p)) (fields l) (f .column, w))
 
+-- a fault that shows before any field is read
+abbrev pub BeforeFields : LineFault → Type 0
+BeforeFields NoLetter = Unit {0}
+BeforeFields (WrongLength c) = Unit {0}
+BeforeFields (NoSpace c) = Unit {0}
+BeforeFields (BadField f) = ⊥
+
 -- what reading a line answers: the record whose line it is, or the fault of the first question that it fails
 abbrev pub Reads : List ℕ → Result Record LineFault → Type 0
 Reads t (Ok said) = t ≡ lineOf said

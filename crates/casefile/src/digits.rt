@@ -70,7 +70,7 @@ fn read_columns(text: &[u8]) -> Option<u32>
 }
 
 // The number whose field of `width` columns this text is.
-pub fn read_number(text: &[u8], width: usize) -> Option<u32>
+pub(crate) fn read_number(text: &[u8], width: usize) -> Option<u32>
     ensures digits { λ r. ⌜ found r (λ n. now (text .entry) ≡ justified width n) ⌝ }
     ensures answer { λ r. ⌜ Cases r ((n : ℕ) → 0 < width → width ≤ 9 → n < 10 ^ width → now (text .entry) ≡ fieldOf width n → ⊥) (λ n. (0 < width) × (width ≤ 9) × (n < 10 ^ width) × (now (text .entry) ≡ fieldOf width n)) ⌝ }
 {
@@ -92,7 +92,7 @@ fn put_front(out: &mut [u8], n: u32)
 }
 
 // Writes the number into a field as wide as `out`.
-pub fn put_number(out: &mut [u8], n: u32)
+pub(crate) fn put_number(out: &mut [u8], n: u32)
     requires { ⌜ 0 < length (now out) ⌝ }
     ensures { λ _. ⌜ now (out .exit) ≡ fieldOf (length (now (out .entry))) n ⌝ }
 {

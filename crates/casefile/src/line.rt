@@ -7,9 +7,9 @@ ghost use Rattle.std.specs.Results.{Cases as ByOk};
 ghost use Rattle.std.specs.Vec.{made};
 ghost use Rattle.std.specs.declared.result.Result.{Result};
 ghost use Rattle.casefile.specs.Fields.{justified};
-ghost use Rattle.casefile.specs.Questions.{ReadsField, Fails, Reads};
+ghost use Rattle.casefile.specs.Questions.{ReadsField, Fails, BeforeFields, Reads};
 ghost use Rattle.casefile.specs.Layout.{byteOf, widths, SpaceAt};
-ghost use Rattle.casefile.specs.Lines.{Apart, Says, FirstUnread, placed, placedAt};
+ghost use Rattle.casefile.specs.Lines.{Cuts, Says, FirstUnread, placed, placedAt};
 use super::digits::read_number;
 use super::fault::FieldFault;
 use super::fault::LineFault;
@@ -110,7 +110,7 @@ fn field_at<'a>(column: usize, text: &'a [u8]) -> Field<'a>
 // The row of a line that has no other field, from what stands behind its letter.
 fn cut_row<'a>(letter: Letter, rest: &'a [u8]) -> Result<Field<'a>, LineFault>
     requires { ⌜ widths letter ≡ 4 ∷ [] ⌝ }
-    ensures { λ r. ⌜ ByOk r (λ f. (length (now (rest .entry)) ≡ 5) × SpaceAt (byteOf letter ∷ now (rest .entry)) 2 × (placed 4 f ≡ placedAt (byteOf letter ∷ now (rest .entry)) (3, 4))) (λ e. Fails (byteOf letter ∷ now (rest .entry)) e) ⌝ }
+    ensures { λ r. ⌜ ByOk r (λ f. (length (now (rest .entry)) ≡ 5) × SpaceAt (byteOf letter ∷ now (rest .entry)) 2 × (placed 4 f ≡ placedAt (byteOf letter ∷ now (rest .entry)) (3, 4))) (λ e. Fails (byteOf letter ∷ now (rest .entry)) e × BeforeFields e) ⌝ }
 {
     if rest.len() != MARK_LENGTH - 1 {
         return Err(wrong_length(rest.len() + 1, MARK_LENGTH));
@@ -123,7 +123,7 @@ fn cut_row<'a>(letter: Letter, rest: &'a [u8]) -> Result<Field<'a>, LineFault>
 
 // The four fields of a term's line, from what stands behind its letter.
 fn cut_term<'a>(rest: &'a [u8]) -> Result<Line<'a>, LineFault>
-    ensures { λ r. ⌜ ByOk r (λ line. Apart (84 ∷ now (rest .entry)) line) (λ e. Fails (84 ∷ now (rest .entry)) e) ⌝ }
+    ensures { λ r. ⌜ Cuts (84 ∷ now (rest .entry)) r ⌝ }
 {
     if rest.len() != TERM_LENGTH - 1 {
         return Err(wrong_length(rest.len() + 1, TERM_LENGTH));
@@ -154,7 +154,7 @@ fn cut_term<'a>(rest: &'a [u8]) -> Result<Line<'a>, LineFault>
 impl<'a> Line<'a> {
     // Takes a line apart by its letter, length and spaces.
     pub fn cut(text: &'a [u8]) -> Result<Line<'a>, LineFault>
-        ensures { λ r. ⌜ ByOk r (λ line. Apart (now (text .entry)) line) (λ e. Fails (now (text .entry)) e) ⌝ }
+        ensures { λ r. ⌜ Cuts (now (text .entry)) r ⌝ }
     {
         let [head, rest @ ..] = text else {
             return Err(LineFault::NoLetter);

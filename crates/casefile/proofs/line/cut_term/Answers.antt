@@ -25,7 +25,7 @@ returns-in-rest-rest-3 c =
     let b1 = first-byte t _ 5 (q .0) in
     let b2 = first-byte t _ 8 (q .1) in
     let b3 = first-byte t _ 13 (q .2) in
-    (Term, refl, search needs, inr (search needs, inr (search needs, inr (search needs, inl (search needs, refl)))))
+    ((Term, refl, search needs, inr (search needs, inr (search needs, inr (search needs, inl (search needs, refl))))), tt)
 
 pub returns : need.returns
 returns c =

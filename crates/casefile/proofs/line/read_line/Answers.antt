@@ -4,7 +4,7 @@ use Rattle.casefile.proofs.line.read_line.Needs as need
 
 pub returns-in-Break-line : need.returns-in-Break-line
 returns-in-Break-line c =
-    let answer = read-fails _ _ _ (c .in-Break-line .ensures tt) (c .from-residual .ensures .1) in
+    let answer = read-fails _ _ _ (c .in-Break-line .ensures tt .0) (c .from-residual .ensures .1) in
     record { answer = answer; only = λ q other. reads-same _ _ q answer other }
 
 pub returns-in-Break-said : need.returns-in-Break-said

@@ -3,7 +3,7 @@ use Rattle.casefile.proofs.Cuts.{empty-begins, of-line, refused}
 use Rattle.casefile.proofs.line.Line.cut.Needs as need
 
 pub returns-in-rest : need.returns-in-rest
-returns-in-rest c = empty-begins (c .args .text .now) (search needs)
+returns-in-rest c = (empty-begins (c .args .text .now) (search needs), tt)
 
 pub returns-in-Break-row : need.returns-in-Break-row
 returns-in-Break-row c = refused _ _ (search needs) (search needs) _ _ (c .in-Break-row .ensures tt) (c .from-residual .ensures .1)

@@ -23,7 +23,7 @@ pub enum LineFault {
 }
 
 // The first question that a text fails: of the whole, of the end of a line, or of a line's bytes.
-#[derive(Clone, Copy, PartialEq, Eq, Debug)]
+#[derive(Clone, Copy)]
 pub enum TextFault {
     TooLong,
     NoNewline,
@@ -31,7 +31,7 @@ pub enum TextFault {
 }
 
 // What is reported of a fault: the column, 0 where no column is at fault, the layer, and the number of the question.
-#[derive(Clone, Copy, PartialEq, Eq, Debug)]
+#[derive(Clone, Copy)]
 pub struct Report {
     pub column: usize,
     pub layer: u8,

@@ -2,12 +2,9 @@
 ghost use Prim.Native.Nat.{_<_};
 ghost use Rattle.casefile.specs.Faults.{reportOf};
 use super::fault::TextFault;
-use super::fault::TextFaultDebug;
-use super::fault::TextFaultEq;
-use super::fault::TextFaultPartialEq;
 
 // Why a text is refused, and in which line; 0 is the text as a whole. Line and column fit a printed fault line.
-#[derive(Clone, Copy, PartialEq, Eq, Debug)]
+#[derive(Clone, Copy)]
 pub struct Refusal {
     pub line: usize,
     pub fault: TextFault,

@@ -2,7 +2,7 @@
 ghost use Prim.Native.Nat.{_+_, _<_};
 
 // The counts of terms, given marks, asks and shows; each fits a printed summary line.
-#[derive(Clone, Copy, PartialEq, Eq, Debug)]
+#[derive(Clone, Copy)]
 pub struct Summary {
     pub terms: usize,
     pub given: usize,

@@ -1,5 +1,5 @@
 -- A text cut front to back: one byte, then a part of some width. Assumes nothing.
-use mathlib.Core.Path.{_≡_, refl, sym, ap, subst, _∙_}
+use mathlib.Core.Path.{_≡_, sym, ap, subst, _∙_}
 use mathlib.Core.List.{List, [], _∷_}
 use Prim.Native.Nat.{ℕ, _+_, _-_, _<_}
 use native.Mathlib.Nat.{add-zero}
@@ -15,7 +15,7 @@ use Rattle.casefile.specs.declared.layout.Letter.{Letter}
 use Rattle.casefile.specs.declared.layout.Letter.the-variants.{Term, Given, Ask, Show}
 use Rattle.casefile.specs.declared.fault.LineFault.{LineFault}
 use Rattle.casefile.specs.declared.line.Line.{Line}
-use Rattle.casefile.specs.Layout.{byteOf, Begins}
+use Rattle.casefile.specs.Layout.{Begins}
 use Rattle.casefile.specs.Lines.{Cuts}
 use Rattle.casefile.specs.Questions.{Fails, BeforeFields}
 

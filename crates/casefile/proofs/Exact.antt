@@ -9,7 +9,7 @@ use lib.ListN.{length, drop, getD, length-append}
 use Rattle.std.specs.declared.result.Result.{Result}
 use Rattle.std.specs.declared.result.Result.the-variants.{Ok, Err}
 use Rattle.std.specs.shelf.Lists.{All}
-use Rattle.std.proofs.shelf.Elements.{all-from-getD, all-getD, all-append, all-push}
+use Rattle.std.proofs.shelf.Elements.{all-from-getD, all-append, all-push}
 use Rattle.std.proofs.shelf.Lists.{getD-at}
 use Rattle.std.proofs.shelf.Tests.{cases-eq}
 use Rattle.std.proofs.shelf.Ways.{tells}
@@ -23,7 +23,7 @@ use Rattle.casefile.specs.Faults.{reportOf}
 use Rattle.casefile.specs.Fields.{digit, mark, front, fieldOf}
 use Rattle.casefile.specs.Questions.{Fails}
 use Rattle.casefile.specs.Records.{texts, spaced, lineOf}
-use Rattle.casefile.specs.Texts.{limit, OneLine, Cut, textOf, Holds, FirstFault, InLine, Refused, Checked}
+use Rattle.casefile.specs.Texts.{limit, OneLine, textOf, Holds, FirstFault, InLine, Refused, Checked}
 use Rattle.casefile.proofs.Readings.{never-fails, line-same, fails-same}
 
 -- a byte that ends no line

@@ -3,8 +3,8 @@ use mathlib.Core.Path.{_≡_, refl, sym, ap, subst, _∙_}
 use mathlib.Core.Bool.{Bool, true, false, cond, not}
 use mathlib.Core.HLevel.{isProp→PathP}
 use mathlib.Core.List.{List, [], _∷_, _++_, map}
-use mathlib.Core.Logic.{_⊎_, inl, inr}
-use Prim.Native.Nat.{ℕ, _+_, _-_, _<_, _≤_, _^_, min}
+use mathlib.Core.Logic.{inl, inr}
+use Prim.Native.Nat.{ℕ, _+_, _-_, _<_, _^_, min}
 use native.Mathlib.Bridge.{le-prop}
 use native.Mathlib.Omega.{arith}
 use lib.Dec.{T, eqb}
@@ -28,7 +28,7 @@ use Rattle.casefile.specs.Fields.{fieldOf}
 use Rattle.casefile.specs.Layout.{byteOf, widths, long, spacesFrom, fieldsFrom, spaces, fields, Begins, RightLength, SpaceAt, partAt}
 use Rattle.casefile.specs.Lines.{letterIn, fieldsIn, Placed, placedAt, Apart, Says, FirstUnread}
 use Rattle.casefile.specs.Questions.{FirstBad, WellFormed, Fails, Reads}
-use Rattle.casefile.specs.Records.{letterOf, texts, spaced, lineOf}
+use Rattle.casefile.specs.Records.{letterOf, spaced, lineOf}
 use Rattle.casefile.proofs.Columns.{fieldOf-same}
 
 -- a field's fault, handed on by a `?`

@@ -1,9 +1,8 @@
 -- Texts as lines: cutting, counting, and the bounds of what is reported. Assumes nothing.
 use mathlib.Core.Path.{_≡_, refl, sym, ap, subst, _∙_}
-use mathlib.Core.Bool.{cond}
 use mathlib.Core.List.{List, [], _∷_, _++_, append-assoc, append-nil}
 use mathlib.Core.Logic.{inl, inr}
-use Prim.Native.Nat.{ℕ, suc, _+_, _-_, _<_, _≤_, min}
+use Prim.Native.Nat.{ℕ, _+_, _-_, _<_, _≤_}
 use native.Mathlib.Nat.{sub-zero}
 use native.Mathlib.Omega.{arith}
 use lib.ListN.{length, take, drop, getD, length-append, take-append-drop}
@@ -22,9 +21,9 @@ use Rattle.casefile.specs.Faults.{reportOf}
 use Rattle.casefile.specs.Layout.{widths, long, spaces, fields}
 use Rattle.casefile.specs.Questions.{FirstBad, Fails}
 use Rattle.casefile.specs.Records.{lineOf}
-use Rattle.casefile.specs.Texts.{limit, OneLine, Cut, textOf, countOf, Holds, Adds, FirstFault, InLine, Refused}
+use Rattle.casefile.specs.Texts.{limit, FirstLine, textOf, countOf, Holds, Adds, FirstFault, InLine, Refused}
 
-pub cut-here : (t : List ℕ) (i : ℕ) → i < length t → getD t i 0 ≡ 10 → ((k : ℕ) → k < i → getD t k 0 ≡ 10 → ⊥) → Cut t (take (i - 0) t) (take (length t - (i + 1)) (drop (i + 1) t))
+pub cut-here : (t : List ℕ) (i : ℕ) → i < length t → getD t i 0 ≡ 10 → ((k : ℕ) → k < i → getD t k 0 ≡ 10 → ⊥) → FirstLine t (take (i - 0) t) (take (length t - (i + 1)) (drop (i + 1) t))
 cut-here t i within here before =
     rw (sub-zero i, take-rest t (i + 1)) (record {
       whole = sym (take-append-drop i t) ∙ ap (λ l. take i t ++ l) (drop-more t i 0 within ∙ ap (λ (b : ℕ). b ∷ drop (i + 1) t) here);

@@ -23,6 +23,6 @@ front (suc w) n = front w (n / 10) ++ (mark n ∷ [])
 abbrev pub fieldOf : ℕ → ℕ → List ℕ
 fieldOf w n = front (w - 1) (n / 10) ++ (digit n ∷ [])
 
--- the same text in plain words: spaces, then the number's decimal digits
+-- the same text in plain words, for a number that fits: spaces, then its decimal digits
 abbrev pub justified : ℕ → ℕ → List ℕ
 justified w n = replicate (w - length (decimal n)) 32 ++ decimal n

@@ -27,7 +27,7 @@ abbrev pub OneLine : List ℕ → Type 0
 OneLine t = (k : ℕ) → k < length t → getD t k 0 ≡ 10 → ⊥
 
 -- a text's first line, and what follows the newline that ends it
-pub record Cut (t line after : List ℕ) : Type 0 where
+pub record FirstLine (t line after : List ℕ) : Type 0 where
   pub whole : t ≡ line ++ 10 ∷ after
   pub first : OneLine line
 
@@ -59,7 +59,7 @@ pub record Adds (s : Summary) (r : Record) (s′ : Summary) : Type 0 where
 abbrev pub FirstFault : List ℕ → TextFault → Type 0
 FirstFault t TooLong = ⊥
 FirstFault t NoNewline = OneLine t
-FirstFault t (Line f) = (line : List ℕ) × (after : List ℕ) × Cut t line after × Fails line f
+FirstFault t (Line f) = (line : List ℕ) × (after : List ℕ) × FirstLine t line after × Fails line f
 
 -- what reading a text's first line answers: its record and how many bytes it takes with its newline, or its fault
 abbrev pub FirstReads : List ℕ → Result (Record × ℕ) TextFault → Type 0

@@ -1,6 +1,6 @@
 // Numbers that fit a field.
 ghost use mathlib.Core.Path.{_≡_};
-ghost use Prim.Native.Nat.{ℕ, _<_, _≤_, _^_};
+ghost use Prim.Native.Nat.{_<_, _≤_, _^_};
 ghost use Rattle.std.specs.Options.{Cases};
 
 // The widest field: nine digits always fit a `u32`.

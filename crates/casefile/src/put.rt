@@ -1,8 +1,8 @@
 // Written lines: a letter, then numbers in their columns, each behind one space.
 ghost use mathlib.Core.Path.{_≡_};
 ghost use mathlib.Core.List.{[], _∷_, _++_};
-ghost use Prim.Native.Nat.{ℕ, _+_, _<_, _≤_};
-ghost use lib.ListN.{length, drop};
+ghost use Prim.Native.Nat.{_+_, _<_};
+ghost use lib.ListN.{length};
 ghost use Rattle.casefile.specs.Put.{slotOf, slotted, spanOf, Wide, Wrote};
 use super::digits::put_number;
 use super::layout::NEWLINE;

@@ -1,11 +1,11 @@
 // A text cut into lines, and checked line by line.
 ghost use mathlib.Core.Path.{_≡_};
-ghost use mathlib.Core.List.{List, [], _∷_, _++_};
-ghost use Prim.Native.Nat.{ℕ, _+_, _<_, _≤_};
+ghost use mathlib.Core.List.{[]};
+ghost use Prim.Native.Nat.{_+_, _<_, _≤_};
 ghost use lib.ListN.{length};
 ghost use Rattle.std.specs.Options.{Cases};
 ghost use Rattle.std.specs.declared.result.Result.{Result};
-ghost use Rattle.casefile.specs.Texts.{limit, OneLine, Cut, FirstReads, Holds, Adds, Checked};
+ghost use Rattle.casefile.specs.Texts.{limit, OneLine, FirstLine, FirstReads, Holds, Adds, Checked};
 use super::fault::TextFault;
 use super::fault::TextFromLine;
 use super::layout::LIMIT;
@@ -50,7 +50,7 @@ impl Summary {
 
 // The first line of a text, and what follows the newline that ends it.
 pub fn cut_line(text: &[u8]) -> Option<(&[u8], &[u8])>
-    ensures { λ r. ⌜ Cases r (OneLine (now (text .entry))) (λ p. Cut (now (text .entry)) (now (p .0)) (now (p .1))) ⌝ }
+    ensures { λ r. ⌜ Cases r (OneLine (now (text .entry))) (λ p. FirstLine (now (text .entry)) (now (p .0)) (now (p .1))) ⌝ }
 {
     for (i, byte) in text.iter().enumerate() {
         if *byte == NEWLINE {

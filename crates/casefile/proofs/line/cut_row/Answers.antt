@@ -1,4 +1,4 @@
-use mathlib.Core.Path.{_≡_, refl, ap, _∙_}
+use mathlib.Core.Path.{refl, ap, _∙_}
 use borrow.Author.Needs.{needs}
 use Rattle.casefile.proofs.Cuts.{last-behind}
 use Rattle.casefile.proofs.line.cut_row.Needs as need

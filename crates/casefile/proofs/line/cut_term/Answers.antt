@@ -1,10 +1,8 @@
-use mathlib.Core.Path.{_≡_, refl, sym, ap, _∙_}
-use mathlib.Core.List.{List, [], _∷_}
+use mathlib.Core.Path.{_≡_, refl, ap, _∙_}
+use mathlib.Core.List.{[], _∷_}
 use mathlib.Core.Logic.{inl, inr}
-use Prim.Native.Nat.{ℕ, suc}
-use native.Mathlib.Omega.{arith}
 use borrow.Author.Needs.{needs}
-use lib.ListN.{length, drop, getD}
+use lib.ListN.{drop}
 use Rattle.casefile.specs.declared.layout.Letter.the-variants.{Term}
 use Rattle.casefile.proofs.Cuts.{first-byte, part-behind, left-behind, last-behind}
 use Rattle.casefile.proofs.line.cut_term.Needs as need

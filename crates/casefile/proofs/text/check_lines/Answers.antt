@@ -1,9 +1,7 @@
 use mathlib.Core.List.{_∷_, _++_}
 use mathlib.Core.Path.{sym, ap, _∙_}
 use native.Mathlib.Omega.{arith}
-use borrow.Author.Needs.{needs}
 use borrow.Author.Tests.{true-eqb, false-eqb}
-use lib.ListN.{length}
 use Rattle.std.proofs.shelf.Lists.{take-rest}
 use Rattle.casefile.specs.Records.{lineOf}
 use Rattle.casefile.proofs.Texts.{few-lines, one-more, first-column, refused-here, all-read}

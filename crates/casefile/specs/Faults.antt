@@ -9,6 +9,7 @@ use Rattle.casefile.specs.declared.fault.TextFault.the-variants.{TooLong, NoNe
 abbrev pub inText : ℕ → ℕ → Report
 inText c n = record { column = c; layer = 1; number = n }
 
+-- each fault with its column and number; 0 where no column is at fault
 abbrev pub reportOf : TextFault → Report
 reportOf TooLong = inText 0 16
 reportOf NoNewline = inText 0 15

@@ -35,9 +35,11 @@ abbrev pub fieldsFrom : ℕ → List ℕ → List (ℕ × ℕ)
 fieldsFrom c [] = []
 fieldsFrom c (w ∷ ws) = (c + 1, w) ∷ fieldsFrom (c + 1 + w) ws
 
+-- the columns that hold a space on a line with this letter
 abbrev pub spaces : Letter → List ℕ
 spaces l = spacesFrom 2 (widths l)
 
+-- the columns and widths of the fields of a line with this letter
 abbrev pub fields : Letter → List (ℕ × ℕ)
 fields l = fieldsFrom 2 (widths l)
 

@@ -16,6 +16,7 @@ use Rattle.casefile.specs.Layout.{spaces, fields, Begins, RightLength, SpaceAt
 use Rattle.casefile.specs.Records.{letterOf, texts}
 use Rattle.casefile.specs.Questions.{FirstBad, WellFormed, Fails, BeforeFields}
 
+-- the letter of a line that is taken apart
 abbrev pub letterIn : Line → Letter
 letterIn (Term row kind left right) = letters.Term
 letterIn (Given row) = letters.Given
@@ -26,9 +27,11 @@ letterIn (Show row) = letters.Show
 abbrev pub Placed : Type 0
 Placed = ℕ × ℕ × List ℕ
 
+-- a field in a width of w columns
 abbrev pub placed : ℕ → Field → Placed
 placed w f = (w, f .column, f .text .now)
 
+-- the fields of a line that is taken apart, in their order
 abbrev pub fieldsIn : Line → List Placed
 fieldsIn (Term row kind left right) = placed 4 row ∷ placed 2 kind ∷ placed 4 left ∷ placed 4 right ∷ []
 fieldsIn (Given row) = placed 4 row ∷ []

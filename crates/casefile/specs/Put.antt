@@ -16,6 +16,7 @@ abbrev pub Wrote : List ℕ → List ℕ → List ℕ → Result ℕ TooShort �
 Wrote bytes before after (Ok n) = (n ≡ length bytes) × (after ≡ bytes ++ drop n before)
 Wrote bytes before after (Err e) = (length before < e .needed) × (e .needed ≡ length bytes) × (after ≡ before)
 
+-- the number n in w columns
 abbrev pub slotOf : ℕ → ℕ → Slot
 slotOf w n = record { width = w; number = n }
 

@@ -8,6 +8,7 @@ use Rattle.casefile.specs.declared.line.Record.the-variants.{Term, Given, Ask,
 use Rattle.casefile.specs.Fields.{fieldOf}
 use Rattle.casefile.specs.Layout.{byteOf}
 
+-- the letter that a record's line begins with
 abbrev pub letterOf : Record → Letter
 letterOf (Term row kind left right) = letters.Term
 letterOf (Given row) = letters.Given

@@ -1,0 +1,48 @@
+-- Lists: what stands where in lists put together.
+use mathlib.Core.List.{List, [], _∷_, _++_, nil≢cons, head-eq-of-cons-eq, tail-eq-of-cons-eq}
+use mathlib.Core.Logic.{_⊎_, inl, inr}
+use mathlib.Core.Path.{_≡_, refl, sym, _∙_, ap}
+use Rattle.knowledge.specs.Terms.{_∈_, here, there}
+
+pub in-left : {A : Type 0} {x : A} (xs ys : List A) → x ∈ xs → x ∈ (xs ++ ys)
+in-left [] ys i = elim i [ ]
+in-left (z ∷ xs) ys (here e) = here e
+in-left (z ∷ xs) ys (there i) = there (in-left xs ys i)
+
+pub in-right : {A : Type 0} {x : A} (xs ys : List A) → x ∈ ys → x ∈ (xs ++ ys)
+in-right [] ys i = i
+in-right (z ∷ xs) ys i = there (in-right xs ys i)
+
+pub in-either : {A : Type 0} {x : A} (xs ys : List A) → x ∈ (xs ++ ys) → (x ∈ xs) ⊎ (x ∈ ys)
+in-either [] ys i = inr i
+in-either (z ∷ xs) ys (here e) = inl (here e)
+in-either {x = x} (z ∷ xs) ys (there i) = onward (in-either xs ys i)
+  where
+    onward : (x ∈ xs) ⊎ (x ∈ ys) → (x ∈ (z ∷ xs)) ⊎ (x ∈ ys)
+    onward (inl j) = inl (there j)
+    onward (inr j) = inr j
+
+pub only-one : {A : Type 0} {x y : A} → x ∈ (y ∷ []) → x ≡ y
+only-one (here e) = e
+only-one (there i) = elim i [ ]
+
+-- a cut of two lists put together lies in the first, or in the second
+pub cut-lies : {A : Type 0} (xs ys earlier : List A) (t : A) (later : List A) → xs ++ ys ≡ earlier ++ (t ∷ later)
+    → ((rest : List A) × (xs ≡ earlier ++ (t ∷ rest))) ⊎ ((front : List A) × (earlier ≡ xs ++ front) × (ys ≡ front ++ (t ∷ later)))
+cut-lies [] ys earlier t later e = inr (earlier, refl, e)
+cut-lies (x ∷ xs) ys [] t later e = inl (xs, ap (λ h. h ∷ xs) (head-eq-of-cons-eq e))
+cut-lies {A} (x ∷ xs) ys (y ∷ earlier) t later e = onward (cut-lies xs ys earlier t later (tail-eq-of-cons-eq e))
+  where
+    onward : ((rest : List A) × (xs ≡ earlier ++ (t ∷ rest))) ⊎ ((front : List A) × (earlier ≡ xs ++ front) × (ys ≡ front ++ (t ∷ later)))
+        → ((rest : List A) × (x ∷ xs ≡ y ∷ (earlier ++ (t ∷ rest)))) ⊎ ((front : List A) × (y ∷ earlier ≡ x ∷ (xs ++ front)) × (ys ≡ front ++ (t ∷ later)))
+    onward (inl (rest, f)) = inl (rest, let h = head-eq-of-cons-eq e in cc)
+    onward (inr (front, f, f′)) = inr (front, let h = head-eq-of-cons-eq e in cc, f′)
+
+pub cut-none : {A : Type 0} (earlier : List A) (t : A) (later : List A) → [] ≡ earlier ++ (t ∷ later) → ⊥
+cut-none [] t later e = nil≢cons e
+cut-none (x ∷ earlier) t later e = nil≢cons e
+
+-- a list of one entry is cut in one way
+pub cut-one : {A : Type 0} (x : A) (earlier : List A) (t : A) (later : List A) → x ∷ [] ≡ earlier ++ (t ∷ later) → ([] ≡ earlier) × (x ≡ t)
+cut-one x [] t later e = (refl, head-eq-of-cons-eq e)
+cut-one x (y ∷ earlier) t later e = absurd (cut-none earlier t later (tail-eq-of-cons-eq e))

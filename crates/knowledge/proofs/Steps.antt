@@ -1,0 +1,29 @@
+-- Steps and rounds keep what was known, and more known terms lead no less far.
+use Prim.Native.Nat.{ℕ, zero, suc}
+use mathlib.Core.List.{List}
+use mathlib.Core.Logic.{_⊎_, inl, inr}
+use Rattle.knowledge.specs.Terms.{Term, _∈_}
+use Rattle.knowledge.specs.Meanings.{Meaning}
+use Rattle.knowledge.specs.Rounds.{Built, Taken, Leads, Scope, everywhere, within, Allowed, g, Round}
+use Rattle.knowledge.specs.Theorems.{MoreGiven}
+
+pub leads-more : (m : Meaning) (Known More : Term → Type 0) → ((u : Term) → Known u → More u) → (t : Term) → Leads m Known t → Leads m More t
+leads-more m Known More more t (inl b) = inl (record { can = b .can; known = λ p i. more p (b .known p i) })
+leads-more m Known More more t (inr k) = inr (record { main = k .main; taking = k .taking; of-main = k .of-main; gives = k .gives; known = more (k .main) (k .known); beside = λ s e. more s (k .beside s e) })
+
+-- a scope lets through what another does
+pub rounds-more : (m : Meaning) (s r : Scope) (given more : List Term) → ((t : Term) → Allowed s t → Allowed r t) → ((t : Term) → t ∈ given → t ∈ more)
+    → (n : ℕ) (t : Term) → Round m s given n t → Round m r more n t
+rounds-more m s r given more lets adds zero t i = adds t i
+rounds-more m s r given more lets adds (suc n) t (inl h) = inl (rounds-more m s r given more lets adds n t h)
+rounds-more m s r given more lets adds (suc n) t (inr (a, l)) = inr (lets t a, leads-more m (Round m s given n) (Round m r more n) (rounds-more m s r given more lets adds n) t l)
+
+pub more-given : MoreGiven
+more-given m s given more adds = rounds-more m s s given more (λ t a. a) adds
+
+pub to-everywhere : (m : Meaning) (terms given : List Term) (n : ℕ) (t : Term) → Round m (within terms) given n t → Round m everywhere given n t
+to-everywhere m terms given = rounds-more m (within terms) everywhere given given (λ t a. tt) (λ t i. i)
+
+pub given-stays : (m : Meaning) (s : Scope) (given : List Term) (n : ℕ) (t : Term) → t ∈ given → Round m s given n t
+given-stays m s given zero t i = i
+given-stays m s given (suc n) t i = inl (given-stays m s given n t i)

@@ -1,0 +1,7 @@
+pub mod Terms
+pub mod Meanings
+pub mod Rounds
+pub mod Runs
+pub mod Kinds
+pub mod Theorems
+pub mod Examples

@@ -1,0 +1,68 @@
+-- What holds of every theory that keeps the laws.
+use Prim.Native.Nat.{ℕ, suc, _≤_, _<_}
+use mathlib.Core.List.{List, [], _∷_}
+use mathlib.Core.Logic.{_↔_}
+use mathlib.Core.Path.{_≡_}
+use lib.ListN.{length}
+use Rattle.knowledge.specs.Terms.{Term, parts, _∈_}
+use Rattle.knowledge.specs.Meanings.{Meaning, Lawful, pile}
+use Rattle.knowledge.specs.Rounds.{Scope, everywhere, within, Round, SmallestRound}
+use Rattle.knowledge.specs.Runs.{Reachable}
+use Rattle.knowledge.specs.Kinds.{plain, publicKeys, replies}
+
+-- a run reaches a term exactly when some round holds it
+abbrev pub RunsAreRounds : Type 0
+RunsAreRounds = (m : Meaning) (given : List Term) (t : Term) → Reachable m given t ↔ ((n : ℕ) × Round m everywhere given n t)
+
+-- the list is closed under parts, and the given terms are in it
+pub record Covers (terms given : List Term) : Type 0 where
+  pub parts-too : (t p : Term) → t ∈ terms → p ∈ parts t → p ∈ terms
+  pub given-too : (t : Term) → t ∈ given → t ∈ terms
+
+-- terms outside such a list do not matter to those in it: each round holds the same of them with or without
+abbrev pub Locality : Type 0
+Locality = (m : Meaning) → Lawful m → (given terms : List Term) → Covers terms given
+  → (n : ℕ) (t : Term) → t ∈ terms → Round m everywhere given n t ↔ Round m (within terms) given n t
+
+-- the round after n adds no term of the list
+abbrev pub AddsNone : Meaning → Scope → List Term → List Term → ℕ → Type 0
+AddsNone m s given terms n = (t : Term) → t ∈ terms → Round m s given (suc n) t → Round m s given n t
+
+-- where one round adds no term of such a list, no later one does
+abbrev pub RoundsStop : Type 0
+RoundsStop = (m : Meaning) → Lawful m → (given terms : List Term) → Covers terms given
+  → (s : Scope) → s ∈ (everywhere ∷ within terms ∷ [])
+  → (n k : ℕ) → AddsNone m s given terms n → n ≤ k → AddsNone m s given terms k
+
+-- no entry stands twice
+abbrev pub Once : List Term → Type 0
+Once [] = Unit {0}
+Once (t ∷ ts) = (¬ (t ∈ ts)) × Once ts
+
+-- how many different terms a list has: as many as there are in a list of the same terms, each once
+pub record Different (terms : List Term) (count : ℕ) : Type 0 where
+  pub each : List Term
+  pub once : Once each
+  pub same : (t : Term) → t ∈ each ↔ t ∈ terms
+  pub counted : length each ≡ count
+
+-- a term of such a list has its smallest round below the number of its different terms
+abbrev pub RoundsAreFew : Type 0
+RoundsAreFew = (m : Meaning) → Lawful m → (given terms : List Term) → Covers terms given
+  → (t : Term) (n count : ℕ) → t ∈ terms → SmallestRound m everywhere given t n → Different terms count → n < count
+
+-- every list has such a number, and only one
+abbrev pub DifferentCounts : Type 0
+DifferentCounts = (terms : List Term) → (count : ℕ) × Different terms count × ((other : ℕ) → Different terms other → other ≡ count)
+
+-- more given terms keep every round
+abbrev pub MoreGiven : Type 0
+MoreGiven = (m : Meaning) (s : Scope) (given more : List Term) → ((t : Term) → t ∈ given → t ∈ more)
+  → (n : ℕ) (t : Term) → Round m s given n t → Round m s more n t
+
+-- the three theories keep the laws, and so does a pile of two that do
+pub record LawfulTheories : Type 0 where
+  pub plain-keeps : Lawful plain
+  pub public-key-keeps : Lawful publicKeys
+  pub reply-keeps : Lawful replies
+  pub pile-keeps : (upper lower : Meaning) → Lawful upper → Lawful lower → Lawful (pile upper lower)

@@ -1,7 +1,10 @@
 -- Lists: what stands where in lists put together.
+use Prim.Native.Nat.{ℕ}
+use native.Mathlib.Omega.{arith}
 use mathlib.Core.List.{List, [], _∷_, _++_, nil≢cons, head-eq-of-cons-eq, tail-eq-of-cons-eq}
 use mathlib.Core.Logic.{_⊎_, inl, inr}
 use mathlib.Core.Path.{_≡_, refl, sym, _∙_, ap}
+use Rattle.std.specs.declared.option.Option.the-variants.{None, Some}
 use Rattle.knowledge.specs.Terms.{_∈_, here, there}
 
 pub in-left : {A : Type 0} {x : A} (xs ys : List A) → x ∈ xs → x ∈ (xs ++ ys)
@@ -46,3 +49,9 @@ cut-none (x ∷ earlier) t later e = nil≢cons e
 pub cut-one : {A : Type 0} (x : A) (earlier : List A) (t : A) (later : List A) → x ∷ [] ≡ earlier ++ (t ∷ later) → ([] ≡ earlier) × (x ≡ t)
 cut-one x [] t later e = (refl, head-eq-of-cons-eq e)
 cut-one x (y ∷ earlier) t later e = absurd (cut-none earlier t later (tail-eq-of-cons-eq e))
+
+pub no-side : {A : Type 0} {x : A} → None ≡ Some x → ⊥
+no-side e = let z : _≡_ {A = ℕ} 0 1 = cc in omega arith
+
+pub same-side : {A : Type 0} {x y : A} → Some x ≡ Some y → x ≡ y
+same-side e = cc

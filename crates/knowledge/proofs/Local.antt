@@ -1,13 +1,15 @@
 -- What lies outside a list closed under parts is of no use to what lies in it.
 use Prim.Native.Nat.{ℕ, zero, suc}
 use mathlib.Core.List.{List, [], _∷_}
-use mathlib.Core.Logic.{_⊎_, inl, inr}
+use mathlib.Core.Logic.{_⊎_, inl, inr, ⊎-elim}
 use mathlib.Core.Path.{_≡_, refl, sym, subst}
+use Rattle.std.specs.declared.option.Option.the-variants.{Some}
 use Rattle.knowledge.specs.Terms.{Term, parts, _∈_, here, there, Inside, part, deeper}
 use Rattle.knowledge.specs.Meanings.{Meaning, Lawful}
 use Rattle.knowledge.specs.Rounds.{Built, Taken, Leads, everywhere, within, Round}
 use Rattle.knowledge.specs.Theorems.{Covers, Locality}
-use Rattle.knowledge.proofs.Steps.{to-everywhere}
+use Rattle.knowledge.proofs.Steps.{leads-more, to-everywhere}
+use Rattle.knowledge.proofs.Decided.{in?}
 
 -- what is inside a term of the list is in it too
 pub inside-too : (terms given : List Term) → Covers terms given → (s t : Term) → Inside s t → t ∈ terms → s ∈ terms
@@ -31,3 +33,38 @@ module _ (m : Meaning) (lawful : Lawful m) (terms given : List Term) (covers : C
   idle-in zero t j (i, h) = h
   idle-in (suc n) t j (inl (i, h)) = h
   idle-in (suc n) t j (inr (out, below)) = absurd (out j)
+
+  -- the two ways to a term, each decided by where the term it starts from lies
+  idle-built : (n : ℕ) (t : Term) → Built m (Idle n) t → Dec (t ∈ terms) → Idle (suc n) t
+  unfolding Idle
+  idle-built n t b (yes i) = inl (i, inr (i, inl (record { can = b .can; known = λ p j. idle-in n p (covers .parts-too t p i j) (b .known p j) })))
+  idle-built n t b (no out) = inr (out, b .known)
+
+  idle-taken : (n : ℕ) (t : Term) (k : Taken m (Idle n) t) → Idle (suc n) t
+  unfolding Idle
+  idle-taken n t k = by-main (in? (k .main) terms)
+    where
+      result : t ∈ parts (k .main)
+      result = subst (λ r. r ∈ parts (k .main)) (k .gives) (lawful .results (k .main) (k .taking) (k .of-main))
+
+      beside : k .main ∈ terms → (s : Term) → k .taking .side ≡ Some s → Round m (within terms) given n s
+      beside i s e = idle-in n s (inside-too terms given covers s (k .main) (lawful .sides (k .main) (k .taking) s (k .of-main) e) i) (k .beside s e)
+
+      outside : (n : ℕ) → ¬ (k .main ∈ terms) → Idle n (k .main) → Idle n t
+      outside zero out (i, h) = absurd (out i)
+      outside (suc n) out (inl (i, h)) = absurd (out i)
+      outside (suc n) out (inr (o, below)) = idle-on n t (below t result)
+
+      by-main : Dec (k .main ∈ terms) → Idle (suc n) t
+      by-main (yes i) = inl (covers .parts-too (k .main) t i result, inr (covers .parts-too (k .main) t i result,
+          inr (record { main = k .main; taking = k .taking; of-main = k .of-main; gives = k .gives; known = idle-in n (k .main) i (k .known); beside = beside i })))
+      by-main (no out) = idle-on n t (outside n out (k .known))
+
+  all-idle : (n : ℕ) (t : Term) → Round m everywhere given n t → Idle n t
+  unfolding Idle
+  all-idle zero t i = (covers .given-too t i, i)
+  all-idle (suc n) t (inl h) = idle-on n t (all-idle n t h)
+  all-idle (suc n) t (inr (a, l)) = ⊎-elim (λ b. idle-built n t b (in? t terms)) (idle-taken n t) (leads-more m (Round m everywhere given n) (Idle n) (all-idle n) t l)
+
+pub locality : Locality
+locality m lawful given terms covers n t i = (λ h. idle-in m lawful terms given covers n t i (all-idle m lawful terms given covers n t h), to-everywhere m terms given n t)

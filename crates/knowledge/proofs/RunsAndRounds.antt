@@ -1,6 +1,5 @@
 -- What a run reaches, a round holds, and the other way round.
 use Prim.Native.Nat.{ℕ, zero, suc}
-use native.Mathlib.Omega.{arith}
 use mathlib.Core.List.{List, [], _∷_, _++_, append-assoc, append-nil}
 use mathlib.Core.Logic.{_⊎_, inl, inr, _↔_}
 use mathlib.Core.Path.{_≡_, refl, sym, _∙_, ap, subst}
@@ -11,7 +10,7 @@ use Rattle.knowledge.specs.Meanings.{Meaning}
 use Rattle.knowledge.specs.Rounds.{Built, Taken, Leads, everywhere, Round}
 use Rattle.knowledge.specs.Runs.{Run, Reachable}
 use Rattle.knowledge.specs.Theorems.{RunsAreRounds}
-use Rattle.knowledge.proofs.Lists.{in-left, in-right, in-either, only-one, cut-lies, cut-one, cut-none}
+use Rattle.knowledge.proofs.Lists.{in-left, in-right, in-either, only-one, cut-lies, cut-one, cut-none, no-side, same-side}
 use Rattle.knowledge.proofs.Steps.{leads-more, given-stays}
 
 module _ (m : Meaning) (given : List Term) where
@@ -77,8 +76,8 @@ module _ (m : Meaning) (given : List Term) where
   premises main (Some s) = main ∷ s ∷ []
 
   side-too : (main : Term) (side : Option Term) (s : Term) → side ≡ Some s → s ∈ premises main side
-  side-too main None s e = let z : _≡_ {A = ℕ} 0 1 = cc in absurd (omega arith)
-  side-too main (Some u) s e = there (here (cc))
+  side-too main None s e = absurd (no-side e)
+  side-too main (Some u) s e = there (here (sym (same-side e)))
 
   main-too : (main : Term) (side : Option Term) → main ∈ premises main side
   main-too main None = here refl

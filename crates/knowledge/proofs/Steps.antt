@@ -1,5 +1,6 @@
 -- Steps and rounds keep what was known, and more known terms lead no less far.
-use Prim.Native.Nat.{ℕ, zero, suc}
+use Prim.Native.Nat.{ℕ, zero, suc, _≤_}
+use native.Mathlib.Decide.{le-ind}
 use mathlib.Core.List.{List}
 use mathlib.Core.Logic.{_⊎_, inl, inr}
 use Rattle.knowledge.specs.Terms.{Term, _∈_}
@@ -27,3 +28,7 @@ to-everywhere m terms given = rounds-more m (within terms) everywhere given give
 pub given-stays : (m : Meaning) (s : Scope) (given : List Term) (n : ℕ) (t : Term) → t ∈ given → Round m s given n t
 given-stays m s given zero t i = i
 given-stays m s given (suc n) t i = inl (given-stays m s given n t i)
+
+-- what a round holds, later ones hold
+pub round-on : (m : Meaning) (s : Scope) (given : List Term) (n k : ℕ) → n ≤ k → (t : Term) → Round m s given n t → Round m s given k t
+round-on m s given n k le t h = le-ind (λ j. Round m s given j t) h (λ j l below. inl below) k le

@@ -1,0 +1,74 @@
+-- Rounds come to an end: each adds a term of the list, or it and all later ones add none.
+use Prim.Native.Nat.{ℕ, zero, suc, _+_, _-_, _≤_, _<_}
+use native.Mathlib.Decide.{le-ind}
+use native.Mathlib.Omega.{arith}
+use mathlib.Core.Bool.{true≢false}
+use mathlib.Core.List.{List, [], _∷_, _++_}
+use mathlib.Core.Logic.{_⊎_, inl, inr, ⊎-elim, _↔_}
+use mathlib.Core.Path.{_≡_, refl, sym, _∙_, subst}
+use lib.ListN.{length}
+use Rattle.knowledge.specs.Terms.{Term, atom, one, two, parts, _∈_, here, there}
+use Rattle.knowledge.specs.Meanings.{Meaning, Lawful}
+use Rattle.knowledge.specs.Rounds.{Built, Taken, Leads, Scope, everywhere, within, Round, Least, SmallestRound}
+use Rattle.knowledge.specs.Theorems.{Covers, AddsNone, RoundsStop, Different, RoundsAreFew}
+use Rattle.knowledge.proofs.Lists.{only-one}
+use Rattle.knowledge.proofs.Steps.{leads-more, round-on}
+use Rattle.knowledge.proofs.Decided.{in?, kept, keep, kept-from, kept-into, held, held-is}
+use Rattle.knowledge.proofs.Local.{locality}
+
+module _ (m : Meaning) (terms given : List Term) where
+  -- what any later round within the list holds, a round before which none was added does
+  pub settled : (n k : ℕ) → AddsNone m (within terms) given terms n → n ≤ k → (t : Term) → Round m (within terms) given k t → Round m (within terms) given n t
+  settled n k none = le-ind (λ j. (t : Term) → Round m (within terms) given j t → Round m (within terms) given n t) (λ t h. h) (λ j le below t. onward j below t) k
+    where
+      onward : (j : ℕ) → ((u : Term) → Round m (within terms) given j u → Round m (within terms) given n u) → (t : Term) → Round m (within terms) given (suc j) t → Round m (within terms) given n t
+      onward j below t (inl h) = below t h
+      onward j below t (inr (a, l)) = none t a (inr (a, leads-more m (Round m (within terms) given j) (Round m (within terms) given n) below t l))
+
+  stops-within : (n k : ℕ) → AddsNone m (within terms) given terms n → n ≤ k → AddsNone m (within terms) given terms k
+  stops-within n k none le t i h = round-on m (within terms) given n k le t (settled n (suc k) none (omega arith) t h)
+
+  -- that a round adds no term of the list is the same over all terms and within the list
+  adds-none-too : Lawful m → Covers terms given → (n : ℕ) → AddsNone m everywhere given terms n ↔ AddsNone m (within terms) given terms n
+  adds-none-too lawful covers n = (λ none t i h. locality m lawful given terms covers n t i .0 (none t i (locality m lawful given terms covers (suc n) t i .1 h)),
+      λ none t i h. locality m lawful given terms covers n t i .1 (none t i (locality m lawful given terms covers (suc n) t i .0 h)))
+
+pub rounds-stop : RoundsStop
+rounds-stop m lawful given terms covers s (here e) = subst (λ x. (n k : ℕ) → AddsNone m x given terms n → n ≤ k → AddsNone m x given terms k) (sym e)
+    (λ n k none le. adds-none-too m terms given lawful covers k .1 (stops-within m terms given n k (adds-none-too m terms given lawful covers n .0 none) le))
+rounds-stop m lawful given terms covers s (there i) = subst (λ x. (n k : ℕ) → AddsNone m x given terms n → n ≤ k → AddsNone m x given terms k) (sym (only-one i)) (stops-within m terms given)
+
+-- nothing comes from nothing: if a round holds any term, some term was given
+pub some-given : (m : Meaning) → Lawful m → (s : Scope) (given : List Term) (n : ℕ) (t : Term) → Round m s given n t → (u : Term) × (u ∈ given)
+some-given m lawful s given zero t i = (t, i)
+some-given m lawful s given (suc n) t (inl h) = some-given m lawful s given n t h
+some-given m lawful s given (suc n) t (inr (a, inr k)) = some-given m lawful s given n (k .main) (k .known)
+some-given m lawful s given (suc n) (atom label) (inr (a, inl b)) = absurd (true≢false (sym (b .can) ∙ lawful .atoms label .unbuilt))
+some-given m lawful s given (suc n) (one k left) (inr (a, inl b)) = some-given m lawful s given n left (b .known left (here refl))
+some-given m lawful s given (suc n) (two k left right) (inr (a, inl b)) = some-given m lawful s given n left (b .known left (here refl))
+
+pub kept-few : (P : Term → Type 0) (decide : (t : Term) → Dec (P t)) (ts : List Term) → length (kept P decide ts) ≤ length ts
+kept-few P decide [] = omega arith
+kept-few P decide (t ∷ ts) = pick (decide t) (kept-few P decide ts)
+  where
+    pick : (d : Dec (P t)) → length (kept P decide ts) ≤ length ts → length (keep d t (kept P decide ts)) ≤ suc (length ts)
+    pick (yes p) le = omega arith
+    pick (no k) le = omega arith
+
+-- of a list no more has P than has Q, if Q holds wherever P does; and as much only if P holds wherever Q does
+module _ (P Q : Term → Type 0) (decideP : (t : Term) → Dec (P t)) (decideQ : (t : Term) → Dec (Q t)) (sub : (t : Term) → P t → Q t) where
+  abbrev Grows : List Term → Type 0
+  Grows ts = ((length (kept P decideP ts) ≤ length (kept Q decideQ ts)) × ((t : Term) → t ∈ ts → Q t → P t)) ⊎ (length (kept P decideP ts) < length (kept Q decideQ ts))
+
+  pub grows : (ts : List Term) → Grows ts
+  grows [] = inl (omega arith, λ t i. elim i [ ])
+  grows (t ∷ ts) = pick (decideP t) (decideQ t) (grows ts)
+    where
+      pick : (p : Dec (P t)) (q : Dec (Q t)) → Grows ts → ((length (keep p t (kept P decideP ts)) ≤ length (keep q t (kept Q decideQ ts))) × ((u : Term) → u ∈ (t ∷ ts) → Q u → P u)) ⊎ (length (keep p t (kept P decideP ts)) < length (keep q t (kept Q decideQ ts)))
+      pick (yes p) (yes q) (inl (le, back)) = inl (omega arith, λ u. elim [ here e ↦ λ h. subst P (sym e) p | there i ↦ back u i ])
+      pick (yes p) (yes q) (inr lt) = inr (omega arith)
+      pick (yes p) (no k) rest = absurd (k (sub t p))
+      pick (no l) (yes q) (inl (le, back)) = inr (omega arith)
+      pick (no l) (yes q) (inr lt) = inr (omega arith)
+      pick (no l) (no k) (inl (le, back)) = inl (le, λ u. elim [ here e ↦ λ h. absurd (k (subst Q e h)) | there i ↦ back u i ])
+      pick (no l) (no k) (inr lt) = inr lt

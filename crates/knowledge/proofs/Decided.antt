@@ -14,7 +14,6 @@ use Rattle.knowledge.proofs.Lists.{in-left, in-right, in-either, no-side, same
 use Rattle.knowledge.proofs.Steps.{leads-more}
 
 abbrev pub same? : (t u : Term) → Dec (t ≡ u)
-unfolding ℕ-discrete
 same? = term-discrete ℕ-discrete
 
 abbrev pub by-iff : {A B : Type 0} → (A → B) → (B → A) → Dec A → Dec B
@@ -55,10 +54,25 @@ all? {A} P decide (y ∷ ys) = by-iff (λ both x i. at (both .0) (both .1) x i) 
     at p rest x (here e) = subst P (sym e) p
     at p rest x (there i) = rest x i
 
--- whether a term stands in a list
+-- whether an entry stands in a list, and whether all of one list stand in another
+abbrev pub in-list? : {A : Type 0} → ((x y : A) → Dec (x ≡ y)) → (x : A) (xs : List A) → Dec (x ∈ xs)
+in-list? equal? x [] = no (λ i. elim i [ ])
+in-list? equal? x (y ∷ ys) = by-iff (elim [ inl e ↦ here e | inr i ↦ there i ]) (elim [ here e ↦ inl e | there i ↦ inr i ]) (either? (equal? x y) (in-list? equal? x ys))
+
+abbrev pub all-in? : {A : Type 0} → ((x y : A) → Dec (x ≡ y)) → (xs ys : List A) → Dec ((x : A) → x ∈ xs → x ∈ ys)
+all-in? equal? xs ys = all? (λ x. x ∈ ys) (λ x. in-list? equal? x ys) xs
+
 abbrev pub in? : (t : Term) (ts : List Term) → Dec (t ∈ ts)
-in? t [] = no (λ i. elim i [ ])
-in? t (u ∷ us) = by-iff (elim [ inl e ↦ here e | inr i ↦ there i ]) (elim [ here e ↦ inl e | there i ↦ inr i ]) (either? (same? t u) (in? t us))
+in? = in-list? same?
+
+-- what is decided with yes holds
+abbrev pub Sure : {A : Type 0} → Dec A → Type 0
+Sure (yes a) = Unit {0}
+Sure (no k) = ⊥
+
+pub sure : {A : Type 0} (d : Dec A) → Sure d → A
+sure (yes a) s = a
+sure (no k) s = absurd s
 
 -- whether a side, if there is one, is known
 abbrev pub side? : (side : Option Term) (known : List Term) → Dec ((s : Term) → side ≡ Some s → s ∈ known)

@@ -1,6 +1,7 @@
 -- Rounds come to an end: each adds a term of the list, or it and all later ones add none.
 use Prim.Native.Nat.{ℕ, zero, suc, _+_, _-_, _≤_, _<_}
 use native.Mathlib.Decide.{le-ind}
+use native.Mathlib.Nat.{le-trans}
 use native.Mathlib.Omega.{arith}
 use mathlib.Core.Bool.{true≢false}
 use mathlib.Core.List.{List, [], _∷_, _++_}
@@ -11,7 +12,7 @@ use Rattle.knowledge.specs.Terms.{Term, atom, one, two, parts, _∈_, here, th
 use Rattle.knowledge.specs.Meanings.{Meaning, Lawful}
 use Rattle.knowledge.specs.Rounds.{Built, Taken, Leads, Scope, everywhere, within, Round, Least, SmallestRound}
 use Rattle.knowledge.specs.Theorems.{Covers, AddsNone, RoundsStop, Different, RoundsAreFew}
-use Rattle.knowledge.proofs.Lists.{only-one}
+use Rattle.knowledge.proofs.Lists.{in-left, only-one}
 use Rattle.knowledge.proofs.Steps.{leads-more, round-on}
 use Rattle.knowledge.proofs.Decided.{in?, kept, keep, kept-from, kept-into, held, held-is}
 use Rattle.knowledge.proofs.Local.{locality}
@@ -72,3 +73,40 @@ module _ (P Q : Term → Type 0) (decideP : (t : Term) → Dec (P t)) (decideQ :
       pick (no l) (yes q) (inr lt) = inr (omega arith)
       pick (no l) (no k) (inl (le, back)) = inl (le, λ u. elim [ here e ↦ λ h. absurd (k (subst Q e h)) | there i ↦ back u i ])
       pick (no l) (no k) (inr lt) = inr lt
+
+length-some : (t : Term) (ts : List Term) → t ∈ ts → 0 < length ts
+length-some t [] i = elim i [ ]
+length-some t (u ∷ us) i = omega arith
+
+-- up to a term's smallest round within the list, each round adds a term of any list that has them all
+module _ (m : Meaning) (lawful : Lawful m) (terms given each : List Term) (covers : Covers terms given) (has : (t : Term) → t ∈ terms → t ∈ each) where
+  abbrev In : ℕ → Term → Type 0
+  In k t = t ∈ held m terms given k
+
+  abbrev in-held? : (k : ℕ) (t : Term) → Dec (In k t)
+  in-held? k t = in? t (held m terms given k)
+
+  pub few-within : (t : Term) (n : ℕ) → SmallestRound m (within terms) given t n → n < length each
+  few-within t n least = le-trans (climb n (omega arith)) (kept-few (In n) (in-held? n) each)
+    where
+      climb : (k : ℕ) → k ≤ n → k < length (kept (In k) (in-held? k) each)
+      climb zero le =
+          let (u, i) = some-given m lawful (within terms) given n t (least .holds) in
+          length-some u _ (kept-into (In 0) (in-held? 0) each u (has u (covers .given-too u i)) i)
+      climb (suc k) lt = pick (climb k (omega arith)) (grows (In k) (In (suc k)) (in-held? k) (in-held? (suc k)) (λ u i. in-left _ _ i) each)
+        where
+          pick : k < length (kept (In k) (in-held? k) each) → Grows (In k) (In (suc k)) (in-held? k) (in-held? (suc k)) (λ u i. in-left _ _ i) each
+              → suc k < length (kept (In (suc k)) (in-held? (suc k)) each)
+          pick l (inr lt) = omega arith
+          pick l (inl (le, back)) = absurd (least .none k (omega arith) (settled m terms given k n none (omega arith) t (least .holds)))
+            where
+              none : AddsNone m (within terms) given terms k
+              none u i h = held-is m terms given k u .0 (back u (has u i) (held-is m terms given (suc k) u .1 h))
+
+pub least-too : (P Q : ℕ → Type 0) → ((k : ℕ) → P k ↔ Q k) → (n : ℕ) → Least P n → Least Q n
+least-too P Q iff n least = record { holds = iff n .0 (least .holds); none = λ k l h. least .none k l (iff k .1 h) }
+
+pub rounds-are-few : RoundsAreFew
+rounds-are-few m lawful given terms covers t n count i least different =
+    subst (λ c. n < c) (different .counted) (few-within m lawful terms given (different .each) covers (λ u j. different .same u .1 j) t n
+      (least-too (λ k. Round m everywhere given k t) (λ k. Round m (within terms) given k t) (λ k. locality m lawful given terms covers k t i) n least))

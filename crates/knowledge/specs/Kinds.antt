@@ -1,84 +1,89 @@
 -- The kinds of terms, and what the three theories mean by them.
 use Prim.Native.Nat.{ℕ}
-use mathlib.Core.Bool.{Bool, false, cond, _||_}
+use mathlib.Core.Bool.{Bool, true, false, cond, _||_}
 use mathlib.Core.List.{List, [], _∷_}
+use mathlib.Core.Path.{_≡_}
 use lib.Dec.{eqb}
 use Rattle.std.specs.declared.option.Option.the-variants.{Some, None}
 use Rattle.knowledge.specs.Terms.{Term, atom, one, two}
 use Rattle.knowledge.specs.Meanings.{Taking, Meaning, pile}
 
--- the terms of each kind with their parts; atoms are of kind 0, and kinds 9 to 15 are free
-abbrev pub pair : Term → Term → Term
-pair left right = two 1 left right
+-- the kinds that the three theories own; 0 is an atom's, and 9 to 15 are free
+pub data Kind : Type 0 where
+  pair hash cipher publicKey sealed signature checkValue reply : Kind
 
-abbrev pub hash : Term → Term
-hash body = one 2 body
+abbrev pub number : Kind → ℕ
+number pair = 1
+number hash = 2
+number cipher = 3
+number publicKey = 4
+number sealed = 5
+number signature = 6
+number checkValue = 7
+number reply = 8
 
-abbrev pub cipher : Term → Term → Term
-cipher body key = two 3 body key
+-- a term of a kind, with one part or two
+abbrev pub term₁ : Kind → Term → Term
+term₁ k left = one (number k) left
 
-abbrev pub publicKey : Term → Term
-publicKey secret = one 4 secret
+abbrev pub term₂ : Kind → Term → Term → Term
+term₂ k left right = two (number k) left right
 
-abbrev pub sealed : Term → Term → Term
-sealed body key = two 5 body key
+abbrev pub is : Kind → ℕ → Bool
+is k n = eqb n (number k)
 
-abbrev pub signature : Term → Term → Term
-signature body secret = two 6 body secret
+abbrev pub oneOf : List Kind → ℕ → Bool
+oneOf [] n = false
+oneOf (k ∷ ks) n = is k n || oneOf ks n
 
-abbrev pub checkValue : Term → Term → Term
-checkValue body key = two 7 body key
+-- a term can be built if its kind is listed, among those with one part or those with two
+abbrev pub builds : List Kind → List Kind → Term → Bool
+builds ones twos (atom label) = false
+builds ones twos (one n left) = oneOf ones n
+builds ones twos (two n left right) = oneOf twos n
 
-abbrev pub reply : Term → Term → Term
-reply asked answered = two 8 asked answered
+-- only terms with two parts have takings: by number of kind, left and right
+abbrev pub takes : (ℕ → Term → Term → List Taking) → Term → List Taking
+takes from (atom label) = []
+takes from (one n left) = []
+takes from (two n left right) = from n left right
 
--- a taking without a side, and one with
+-- a result that is free to take, and one that needs a side
 abbrev pub freely : Term → Taking
 freely result = record { side = None; result = result }
 
 abbrev pub knowing : Term → Term → Taking
 knowing side result = record { side = Some side; result = result }
 
--- a kind is one of those listed
-abbrev pub oneOf : List ℕ → ℕ → Bool
-oneOf [] k = false
-oneOf (l ∷ ls) k = eqb k l || oneOf ls k
-
--- whether a term can be built, by its kind: kinds with one part, and kinds with two
-abbrev pub buildsKinds : List ℕ → List ℕ → Term → Bool
-buildsKinds ones twos (atom label) = false
-buildsKinds ones twos (one k left) = oneOf ones k
-buildsKinds ones twos (two k left right) = oneOf twos k
-
--- pair, hash, cipher and check value: a pair gives its parts, a cipher its body to who knows the key
-abbrev pub plainTakings : Term → List Taking
-plainTakings (atom label) = []
-plainTakings (one k left) = []
-plainTakings (two k left right) = cond (eqb k 1) (freely left ∷ freely right ∷ []) (cond (eqb k 3) (knowing right left ∷ []) [])
-
+-- a pair gives its parts, a cipher its body to who knows its key
 abbrev pub plain : Meaning
-plain = record { owns = oneOf (1 ∷ 2 ∷ 3 ∷ 7 ∷ []); builds = buildsKinds (2 ∷ []) (1 ∷ 3 ∷ 7 ∷ []); takings = plainTakings }
+plain = record {
+    owns = oneOf (pair ∷ hash ∷ cipher ∷ checkValue ∷ []);
+    builds = builds (hash ∷ []) (pair ∷ cipher ∷ checkValue ∷ []);
+    takings = takes (λ n left right. cond (is pair n) (freely left ∷ freely right ∷ []) (cond (is cipher n) (knowing right left ∷ []) []))
+  }
 
--- what is sealed under a public key is given to who knows that key's secret
+-- what is sealed under a public key goes to who knows that key's secret; under any other key, to nobody
 abbrev pub opened : Term → Term → List Taking
 opened body (atom label) = []
-opened body (one k secret) = cond (eqb k 4) (knowing secret body ∷ []) []
-opened body (two k left right) = []
-
--- public key, sealed and signature
-abbrev pub publicKeyTakings : Term → List Taking
-publicKeyTakings (atom label) = []
-publicKeyTakings (one k left) = []
-publicKeyTakings (two k left right) = cond (eqb k 5) (opened left right) []
+opened body (one n secret) = cond (is publicKey n) (knowing secret body ∷ []) []
+opened body (two n left right) = []
 
 abbrev pub publicKeys : Meaning
-publicKeys = record { owns = oneOf (4 ∷ 5 ∷ 6 ∷ []); builds = buildsKinds (4 ∷ []) (5 ∷ 6 ∷ []); takings = publicKeyTakings }
+publicKeys = record {
+    owns = oneOf (publicKey ∷ sealed ∷ signature ∷ []);
+    builds = builds (publicKey ∷ []) (sealed ∷ signature ∷ []);
+    takings = takes (λ n body key. cond (is sealed n) (opened body key) [])
+  }
 
 -- a reply stands for a unit that sends the answered term to whoever sends it the asked one
-abbrev pub replyTakings : Term → List Taking
-replyTakings (atom label) = []
-replyTakings (one k left) = []
-replyTakings (two k left right) = cond (eqb k 8) (knowing left right ∷ []) []
-
 abbrev pub replies : Meaning
-replies = record { owns = oneOf (8 ∷ []); builds = buildsKinds [] []; takings = replyTakings }
+replies = record {
+    owns = oneOf (reply ∷ []);
+    builds = builds [] [];
+    takings = takes (λ n asked answered. cond (is reply n) (knowing asked answered ∷ []) [])
+  }
+
+-- the three in one: replies over public keys over plain
+abbrev pub standard : Meaning
+standard = pile replies (pile publicKeys plain)

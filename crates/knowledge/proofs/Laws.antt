@@ -28,7 +28,7 @@ side-sound t s r h i k (here e) = subst (Sound t) (sym e) (i, λ u f. subst (λ 
 side-sound t s r h i k (there j) = elim j [ ]
 
 -- what holds of either of two holds of the one that a test picks
-either : {A : Type 0} (P : A → Type 0) (b : Bool) (x y : A) → P x → P y → P (cond b x y)
+pub either : {A : Type 0} (P : A → Type 0) (b : Bool) (x y : A) → P x → P y → P (cond b x y)
 either P true x y h l = h
 either P false x y h l = l
 
@@ -42,11 +42,11 @@ not-listed [] n k e i = elim i [ ]
 not-listed (x ∷ xs) n k e (here f) = subst (λ y. is y n ≡ false) (sym f) (both-off (is x n) (oneOf xs n) e .0)
 not-listed (x ∷ xs) n k e (there i) = not-listed xs n k (both-off (is x n) (oneOf xs n) e .1) i
 
-none-listed : (ks : List Kind) (n : ℕ) → ((k : Kind) → k ∈ ks → is k n ≡ false) → oneOf ks n ≡ false
+pub none-listed : (ks : List Kind) (n : ℕ) → ((k : Kind) → k ∈ ks → is k n ≡ false) → oneOf ks n ≡ false
 none-listed [] n none = refl
 none-listed (x ∷ xs) n none = let e = none x (here refl) in let f = none-listed xs n (λ k i. none k (there i)) in rw (e, f)
 
-untested : (b : Bool) (xs ys : List Taking) → b ≡ false → ys ≡ [] → cond b xs ys ≡ []
+pub untested : (b : Bool) (xs ys : List Taking) → b ≡ false → ys ≡ [] → cond b xs ys ≡ []
 untested true xs ys e f = absurd (true≢false e)
 untested false xs ys e f = f
 

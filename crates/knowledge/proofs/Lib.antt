@@ -9,3 +9,4 @@ pub mod Counts
 pub mod Laws
 pub mod Verdicts
 pub mod Examples
+pub mod TableOfKinds

@@ -3,5 +3,6 @@ pub mod Meanings
 pub mod Rounds
 pub mod Runs
 pub mod Kinds
+pub mod Table
 pub mod Theorems
 pub mod Examples

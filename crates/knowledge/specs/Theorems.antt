@@ -1,7 +1,7 @@
 -- What holds of every theory that keeps the laws.
 use Prim.Native.Nat.{ℕ, suc, _≤_, _<_}
 use mathlib.Core.List.{List, [], _∷_}
-use mathlib.Core.Logic.{_↔_}
+use mathlib.Core.Logic.{_⊎_, _↔_}
 use mathlib.Core.Path.{_≡_}
 use lib.ListN.{length}
 use Rattle.knowledge.specs.Terms.{Term, parts, _∈_}
@@ -10,7 +10,7 @@ use Rattle.knowledge.specs.Rounds.{Scope, everywhere, within, Round, SmallestR
 use Rattle.knowledge.specs.Runs.{Reachable}
 use Rattle.knowledge.specs.Kinds.{plain, publicKeys, replies}
 
--- a run reaches a term exactly when some round holds it
+-- some run reaches a term exactly when some round holds it
 abbrev pub RunsAreRounds : Type 0
 RunsAreRounds = (m : Meaning) (given : List Term) (t : Term) → Reachable m given t ↔ ((n : ℕ) × Round m everywhere given n t)
 
@@ -66,3 +66,8 @@ pub record LawfulTheories : Type 0 where
   pub public-key-keeps : Lawful publicKeys
   pub reply-keeps : Lawful replies
   pub pile-keeps : (upper lower : Meaning) → Lawful upper → Lawful lower → Lawful (pile upper lower)
+
+-- each goal has a smallest round, or no run reaches it
+abbrev pub GoalsAreSettled : Type 0
+GoalsAreSettled = (m : Meaning) → Lawful m → (given : List Term) (goal : Term)
+  → ((n : ℕ) × SmallestRound m everywhere given goal n) ⊎ (¬ (Reachable m given goal))

@@ -1,0 +1,86 @@
+-- The table of kinds, read off the definitions.
+use Prim.Native.Nat.{ℕ}
+use mathlib.Core.Bool.{Bool, true, false, _||_, false≢true}
+use mathlib.Core.List.{List, [], _∷_, _++_, map}
+use mathlib.Core.Logic.{_↔_, ⊎-elim}
+use mathlib.Core.Path.{_≡_, refl, sym, _∙_, ap, subst}
+use borrow.Author.Tests.{eqb-true, eq-eqb, ne-eqb}
+use Rattle.knowledge.specs.Terms.{Term, atom, one, two, _∈_, here, there}
+use Rattle.knowledge.specs.Kinds.{Kind, pair, hash, cipher, publicKey, sealed, signature, checkValue, reply, number, term₁, is, oneOf, opened, plain, publicKeys, replies, standard}
+use Rattle.knowledge.specs.Table.{Line, Table}
+use Rattle.knowledge.proofs.Lists.{in-left, in-right, in-either}
+use Rattle.knowledge.proofs.Laws.{either, untested}
+
+-- a number is a listed kind's exactly if it stands among the kinds' numbers
+listed : (ks : List Kind) (n : ℕ) → oneOf ks n ≡ true → n ∈ map number ks
+listed [] n e = absurd (false≢true e)
+listed (k ∷ ks) n e = pick (is k n) refl (listed ks n)
+  where
+    pick : (b : Bool) → is k n ≡ b → (oneOf ks n ≡ true → n ∈ map number ks) → n ∈ (number k ∷ map number ks)
+    pick true f rest = here (eqb-true n (number k) f)
+    pick false f rest = there (rest (subst (λ b. (b || oneOf ks n) ≡ true) f e))
+
+listed-back : (ks : List Kind) (n : ℕ) → n ∈ map number ks → oneOf ks n ≡ true
+listed-back [] n i = elim i [ ]
+listed-back (k ∷ ks) n (here e) = rw (eq-eqb n (number k) e)
+listed-back (k ∷ ks) n (there i) = pick (is k n) (listed-back ks n i)
+  where
+    pick : (b : Bool) → oneOf ks n ≡ true → (b || oneOf ks n) ≡ true
+    pick true e = refl
+    pick false e = e
+
+listed-iff : (ks : List Kind) (n : ℕ) → oneOf ks n ≡ true ↔ n ∈ map number ks
+listed-iff ks n = (listed ks n, listed-back ks n)
+
+unlisted : (ks : List Kind) (n : ℕ) → ¬ (n ∈ map number ks) → oneOf ks n ≡ false
+unlisted [] n out = refl
+unlisted (k ∷ ks) n out = rw (ne-eqb n (number k) (λ e. out (here e)), unlisted ks n (λ i. out (there i)))
+
+-- under a key that is no public key nothing is given out
+unopened : (body key : Term) → ((secret : Term) → ¬ (key ≡ term₁ publicKey secret)) → opened body key ≡ []
+unopened body (atom label) other = refl
+unopened body (one n secret) other = untested (is publicKey n) _ [] (ne-eqb n 4 (λ e. other secret (ap (λ k. one k secret) e))) refl
+unopened body (two n left right) other = refl
+
+module _ (n : ℕ) (left : Term) (out : ¬ (n ∈ (2 ∷ 4 ∷ []))) where
+  other₁ : Line (one n left) false []
+  other₁ = record {
+      can = either (λ b. b ≡ false) (oneOf (reply ∷ []) n) false _ refl (either (λ b. b ≡ false) (oneOf (publicKey ∷ sealed ∷ signature ∷ []) n) _ _ (unlisted (publicKey ∷ []) n (λ i. out (there i))) (unlisted (hash ∷ []) n (λ i. out (in-left (2 ∷ []) (4 ∷ []) i))));
+      takings-are = either (λ ks. ks ≡ []) (oneOf (reply ∷ []) n) [] _ refl (either (λ ks. ks ≡ []) (oneOf (publicKey ∷ sealed ∷ signature ∷ []) n) [] [] refl refl)
+    }
+
+module _ (n : ℕ) (left right : Term) (out : ¬ (n ∈ (1 ∷ 3 ∷ 5 ∷ 6 ∷ 7 ∷ 8 ∷ []))) where
+  off : (k : Kind) → number k ∈ (1 ∷ 3 ∷ 5 ∷ 6 ∷ 7 ∷ 8 ∷ []) → is k n ≡ false
+  off k i = ne-eqb n (number k) (λ e. out (subst (λ x. x ∈ (1 ∷ 3 ∷ 5 ∷ 6 ∷ 7 ∷ 8 ∷ [])) (sym e) i))
+
+  other₂ : Line (two n left right) false []
+  other₂ =
+      let no-pair : is pair n ≡ false = off pair (here refl) in
+      let no-cipher : is cipher n ≡ false = off cipher (there (here refl)) in
+      let no-sealed : is sealed n ≡ false = off sealed (there (there (here refl))) in
+      let no-signature : is signature n ≡ false = off signature (there (there (there (here refl)))) in
+      let no-check : is checkValue n ≡ false = off checkValue (there (there (there (there (here refl))))) in
+      let no-reply : is reply n ≡ false = off reply (there (there (there (there (there (here refl)))))) in
+      record {
+        can = simp (no-reply, no-pair, no-cipher, no-check, no-sealed, no-signature) (either (λ b. b ≡ false) (is publicKey n || false) false false refl refl);
+        takings-are = simp (no-reply, no-pair, no-cipher, no-sealed, no-signature) (either (λ ks. ks ≡ []) (is publicKey n || false) [] [] refl refl)
+      }
+
+pub table : Table
+table = record {
+    atoms = λ label. record { can = refl; takings-are = refl };
+    pairs = λ left right. record { can = refl; takings-are = refl };
+    hashes = λ body. record { can = refl; takings-are = refl };
+    ciphers = λ body key. record { can = refl; takings-are = refl };
+    public-keys = λ secret. record { can = refl; takings-are = refl };
+    sealed-to-one = λ body secret. record { can = refl; takings-are = refl };
+    sealed-to-none = λ body key other. record { can = refl; takings-are = unopened body key other };
+    signatures = λ body secret. record { can = refl; takings-are = refl };
+    check-values = λ body key. record { can = refl; takings-are = refl };
+    asks = λ asked answered. record { can = refl; takings-are = refl };
+    others₁ = other₁;
+    others₂ = other₂;
+    plain-owns = listed-iff (pair ∷ hash ∷ cipher ∷ checkValue ∷ []);
+    public-keys-own = listed-iff (publicKey ∷ sealed ∷ signature ∷ []);
+    replies-own = listed-iff (reply ∷ [])
+  }

@@ -1,0 +1,6 @@
+use Rattle.knowledge.proofs.Counts.{different-counts}
+use Rattle.knowledge.proofs.Stops.{rounds-are-few}
+use Rattle.knowledge.proofs.rounds_are_few.Needs as need
+
+pub returns : need.returns
+returns c = record { few = rounds-are-few; counted = different-counts }

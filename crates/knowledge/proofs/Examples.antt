@@ -18,13 +18,13 @@ denies given goal = denied (verdict standard standard-lawful given goal)
 pub examples : Examples
 unfolding ℕ-discrete
 examples = record {
-    cipher-alone = denies _ _ tt;
-    cipher-and-key = grants _ _ 1 refl;
-    cipher-and-hashed = grants _ _ 2 refl;
-    sealed-and-public-key = denies _ _ tt;
-    sealed-under-atom = denies _ _ tt;
-    signature-alone = denies _ _ tt;
-    reply-alone = denies _ _ tt;
-    sealed-alone = denies _ _ tt;
-    sealed-and-reply = grants _ _ 2 refl
-  }
+  cipher-alone = denies _ _ tt;
+  cipher-and-key = grants _ _ 1 refl;
+  cipher-and-hashed = grants _ _ 2 refl;
+  sealed-and-public-key = denies _ _ tt;
+  sealed-under-atom = denies _ _ tt;
+  signature-alone = denies _ _ tt;
+  reply-alone = denies _ _ tt;
+  sealed-alone = denies _ _ tt;
+  sealed-and-reply = grants _ _ 2 refl;
+}

@@ -8,7 +8,7 @@ use lib.ListN.{length}
 use Rattle.std.specs.declared.option.Option.the-variants.{Some}
 use Rattle.knowledge.specs.Terms.{Term, atom, one, two, kind, parts, _∈_, here, there, Inside, part, deeper}
 use Rattle.knowledge.specs.Meanings.{Taking, Meaning, NoStep, Lawful, pile}
-use Rattle.knowledge.specs.Kinds.{Kind, pair, hash, cipher, publicKey, sealed, signature, checkValue, reply, is, oneOf, builds, takes, freely, knowing, plain, opened, publicKeys, replies, standard}
+use Rattle.knowledge.specs.Kinds.{Kind, pair, hash, cipher, publicKey, sealed, signature, checkValue, reply, is, oneOf, buildable, takes, freely, knowing, plain, opened, publicKeys, replies, standard}
 use Rattle.knowledge.specs.Theorems.{LawfulTheories}
 use Rattle.knowledge.proofs.Lists.{no-side, same-side}
 
@@ -53,26 +53,26 @@ untested false xs ys e f = f
 -- a theory by kinds keeps the laws if it owns what it builds, and its takings keep them
 module _ (owned ones twos : List Kind) (from : ℕ → Term → Term → List Taking) where
   abbrev theory : Meaning
-  theory = record { owns = oneOf owned; builds = builds ones twos; takings = takes from }
+  theory = record { owns = oneOf owned; builds = buildable ones twos; takings = takes from }
 
   by-kinds : ((k : Kind) → k ∈ ones → k ∈ owned) → ((k : Kind) → k ∈ twos → k ∈ owned)
       → ((n : ℕ) (left right : Term) → length (from n left right) ≤ 2)
       → ((n : ℕ) (left right : Term) (k : Taking) → k ∈ from n left right → Sound (two n left right) k)
       → ((n : ℕ) (left right : Term) → ((k : Kind) → k ∈ owned → is k n ≡ false) → from n left right ≡ []) → Lawful theory
   by-kinds ones-owned twos-owned small sound none = record {
-      few = elim [ atom label ↦ omega arith | one n left ↦ omega arith | two n left right ↦ small n left right ];
-      atoms = λ label. record { unbuilt = refl; untaken = refl };
-      results = λ t k i. all-sound t k i .0;
-      sides = λ t k s i. all-sound t k i .1 s;
-      foreign = λ t e. record { unbuilt = unbuilt t e; untaken = untaken t e }
-    }
+    few = elim [ atom label ↦ omega arith | one n left ↦ omega arith | two n left right ↦ small n left right ];
+    atoms = λ label. record { unbuilt = refl; untaken = refl };
+    results = λ t k i. all-sound t k i .0;
+    sides = λ t k s i. all-sound t k i .1 s;
+    foreign = λ t e. record { unbuilt = unbuilt t e; untaken = untaken t e };
+  }
     where
       all-sound : (t : Term) (k : Taking) → k ∈ takes from t → Sound t k
       all-sound (atom label) k i = elim i [ ]
       all-sound (one n left) k i = elim i [ ]
       all-sound (two n left right) k i = sound n left right k i
 
-      unbuilt : (t : Term) → oneOf owned (kind t) ≡ false → builds ones twos t ≡ false
+      unbuilt : (t : Term) → oneOf owned (kind t) ≡ false → buildable ones twos t ≡ false
       unbuilt (atom label) e = refl
       unbuilt (one n left) e = none-listed ones n (λ k i. not-listed owned n k e (ones-owned k i))
       unbuilt (two n left right) e = none-listed twos n (λ k i. not-listed owned n k e (twos-owned k i))
@@ -84,26 +84,26 @@ module _ (owned ones twos : List Kind) (from : ℕ → Term → Term → List Ta
 
 pile-no-step : (upper lower : Meaning) (t : Term) → NoStep upper t → NoStep lower t → NoStep (pile upper lower) t
 pile-no-step upper lower t u l = record {
-    unbuilt = either (λ b. b ≡ false) (upper .owns (kind t)) (upper .builds t) (lower .builds t) (u .unbuilt) (l .unbuilt);
-    untaken = either (λ ks. ks ≡ []) (upper .owns (kind t)) (upper .takings t) (lower .takings t) (u .untaken) (l .untaken)
-  }
+  unbuilt = either (λ b. b ≡ false) (upper .owns (kind t)) (upper .builds t) (lower .builds t) (u .unbuilt) (l .unbuilt);
+  untaken = either (λ ks. ks ≡ []) (upper .owns (kind t)) (upper .takings t) (lower .takings t) (u .untaken) (l .untaken);
+}
 
 pub pile-lawful : (upper lower : Meaning) → Lawful upper → Lawful lower → Lawful (pile upper lower)
 pile-lawful upper lower u l = record {
-    few = λ t. either (λ ks. length ks ≤ 2) (upper .owns (kind t)) (upper .takings t) (lower .takings t) (u .few t) (l .few t);
-    atoms = λ label. pile-no-step upper lower (atom label) (u .atoms label) (l .atoms label);
-    results = λ t. either (λ ks. (k : Taking) → k ∈ ks → k .result ∈ parts t) (upper .owns (kind t)) (upper .takings t) (lower .takings t) (u .results t) (l .results t);
-    sides = λ t. either (λ ks. (k : Taking) (s : Term) → k ∈ ks → k .side ≡ Some s → Inside s t) (upper .owns (kind t)) (upper .takings t) (lower .takings t) (u .sides t) (l .sides t);
-    foreign = λ t e. let (f, h) = both-off (upper .owns (kind t)) (lower .owns (kind t)) e in pile-no-step upper lower t (u .foreign t f) (l .foreign t h)
-  }
+  few = λ t. either (λ ks. length ks ≤ 2) (upper .owns (kind t)) (upper .takings t) (lower .takings t) (u .few t) (l .few t);
+  atoms = λ label. pile-no-step upper lower (atom label) (u .atoms label) (l .atoms label);
+  results = λ t. either (λ ks. (k : Taking) → k ∈ ks → k .result ∈ parts t) (upper .owns (kind t)) (upper .takings t) (lower .takings t) (u .results t) (l .results t);
+  sides = λ t. either (λ ks. (k : Taking) (s : Term) → k ∈ ks → k .side ≡ Some s → Inside s t) (upper .owns (kind t)) (upper .takings t) (lower .takings t) (u .sides t) (l .sides t);
+  foreign = λ t e. let (f, h) = both-off (upper .owns (kind t)) (lower .owns (kind t)) e in pile-no-step upper lower t (u .foreign t f) (l .foreign t h);
+}
 
 plain-lawful : Lawful plain
 plain-lawful = by-kinds (pair ∷ hash ∷ cipher ∷ checkValue ∷ []) (hash ∷ []) (pair ∷ cipher ∷ checkValue ∷ []) _
     (λ k. elim [ here e ↦ there (here e) | there i ↦ elim i [ ] ]) (λ k. elim [ here e ↦ here e | there i ↦ there (there i) ])
     (λ n left right. either (λ ks. length ks ≤ 2) (is pair n) _ _ (omega arith) (either (λ ks. length ks ≤ 2) (is cipher n) _ _ (omega arith) (omega arith)))
     (λ n left right. let t : Term = two n left right in
-      either (λ ks. (k : Taking) → k ∈ ks → Sound t k) (is pair n) _ _ (free-sound t left (here refl) _ (free-sound t right (there (here refl)) [] (none-sound t)))
-        (either (λ ks. (k : Taking) → k ∈ ks → Sound t k) (is cipher n) _ _ (side-sound t right left (part (there (here refl))) (here refl)) (none-sound t)))
+    either (λ ks. (k : Taking) → k ∈ ks → Sound t k) (is pair n) _ _ (free-sound t left (here refl) _ (free-sound t right (there (here refl)) [] (none-sound t)))
+    (either (λ ks. (k : Taking) → k ∈ ks → Sound t k) (is cipher n) _ _ (side-sound t right left (part (there (here refl))) (here refl)) (none-sound t)))
     (λ n left right off. untested (is pair n) _ _ (off pair (here refl)) (untested (is cipher n) _ _ (off cipher (there (there (here refl)))) refl))
 
 -- a sealed term's taking, whatever its key
@@ -129,7 +129,7 @@ reply-lawful : Lawful replies
 reply-lawful = by-kinds (reply ∷ []) [] [] _ (λ k i. elim i [ ]) (λ k i. elim i [ ])
     (λ n asked answered. either (λ ks. length ks ≤ 2) (is reply n) _ _ (omega arith) (omega arith))
     (λ n asked answered. let t : Term = two n asked answered in
-      either (λ ks. (k : Taking) → k ∈ ks → Sound t k) (is reply n) _ _ (side-sound t asked answered (part (here refl)) (there (here refl))) (none-sound t))
+    either (λ ks. (k : Taking) → k ∈ ks → Sound t k) (is reply n) _ _ (side-sound t asked answered (part (here refl)) (there (here refl))) (none-sound t))
     (λ n asked answered off. untested (is reply n) _ _ (off reply (here refl)) refl)
 
 pub lawful-theories : LawfulTheories

@@ -8,7 +8,7 @@ use Rattle.knowledge.specs.Terms.{Term, parts, _∈_, here, there, Inside, par
 use Rattle.knowledge.specs.Meanings.{Meaning, Lawful}
 use Rattle.knowledge.specs.Rounds.{Built, Taken, Leads, everywhere, within, Round}
 use Rattle.knowledge.specs.Theorems.{Covers, Locality}
-use Rattle.knowledge.proofs.Steps.{leads-more, to-everywhere}
+use Rattle.knowledge.proofs.Steps.{leads-more, rounds-more}
 use Rattle.knowledge.proofs.Decided.{in?}
 
 -- what is inside a term of the list is in it too
@@ -56,8 +56,13 @@ module _ (m : Meaning) (lawful : Lawful m) (terms given : List Term) (covers : C
       outside (suc n) out (inr (o, below)) = idle-on n t (below t result)
 
       by-main : Dec (k .main ∈ terms) → Idle (suc n) t
-      by-main (yes i) = inl (covers .parts-too (k .main) t i result, inr (covers .parts-too (k .main) t i result,
-          inr (record { main = k .main; taking = k .taking; of-main = k .of-main; gives = k .gives; known = idle-in n (k .main) i (k .known); beside = beside i })))
+      by-main (yes i) = inl (
+        covers .parts-too (k .main) t i result,
+        inr (
+          covers .parts-too (k .main) t i result,
+          inr (record { main = k .main; taking = k .taking; of-main = k .of-main; gives = k .gives; known = idle-in n (k .main) i (k .known); beside = beside i }),
+        ),
+      )
       by-main (no out) = idle-on n t (outside n out (k .known))
 
   all-idle : (n : ℕ) (t : Term) → Round m everywhere given n t → Idle n t
@@ -67,4 +72,7 @@ module _ (m : Meaning) (lawful : Lawful m) (terms given : List Term) (covers : C
   all-idle (suc n) t (inr (a, l)) = ⊎-elim (λ b. idle-built n t b (in? t terms)) (idle-taken n t) (leads-more m (Round m everywhere given n) (Idle n) (all-idle n) t l)
 
 pub locality : Locality
-locality m lawful given terms covers n t i = (λ h. idle-in m lawful terms given covers n t i (all-idle m lawful terms given covers n t h), to-everywhere m terms given n t)
+locality m lawful given terms covers s includes n t i = (
+  λ h. idle-in m lawful terms given covers n t i (all-idle m lawful terms given covers n t (rounds-more m s everywhere given given (λ u a. tt) (λ u j. j) n t h)),
+  rounds-more m (within terms) s given given includes (λ u j. j) n t,
+)

@@ -22,9 +22,6 @@ rounds-more m s r given more lets adds (suc n) t (inr (a, l)) = inr (lets t a, l
 pub more-given : MoreGiven
 more-given m s given more adds = rounds-more m s s given more (λ t a. a) adds
 
-pub to-everywhere : (m : Meaning) (terms given : List Term) (n : ℕ) (t : Term) → Round m (within terms) given n t → Round m everywhere given n t
-to-everywhere m terms given = rounds-more m (within terms) everywhere given given (λ t a. tt) (λ t i. i)
-
 pub given-stays : (m : Meaning) (s : Scope) (given : List Term) (n : ℕ) (t : Term) → t ∈ given → Round m s given n t
 given-stays m s given zero t i = i
 given-stays m s given (suc n) t i = inl (given-stays m s given n t i)

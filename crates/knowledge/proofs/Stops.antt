@@ -29,15 +29,10 @@ module _ (m : Meaning) (terms given : List Term) where
   stops-within : (n k : ℕ) → AddsNone m (within terms) given terms n → n ≤ k → AddsNone m (within terms) given terms k
   stops-within n k none le t i h = round-on m (within terms) given n k le t (settled n (suc k) none (omega arith) t h)
 
-  -- that a round adds no term of the list is the same over all terms and within the list
-  adds-none-too : Lawful m → Covers terms given → (n : ℕ) → AddsNone m everywhere given terms n ↔ AddsNone m (within terms) given terms n
-  adds-none-too lawful covers n = (λ none t i h. locality m lawful given terms covers n t i .0 (none t i (locality m lawful given terms covers (suc n) t i .1 h)),
-      λ none t i h. locality m lawful given terms covers n t i .1 (none t i (locality m lawful given terms covers (suc n) t i .0 h)))
-
 pub rounds-stop : RoundsStop
-rounds-stop m lawful given terms covers s (here e) = subst (λ x. (n k : ℕ) → AddsNone m x given terms n → n ≤ k → AddsNone m x given terms k) (sym e)
-    (λ n k none le. adds-none-too m terms given lawful covers k .1 (stops-within m terms given n k (adds-none-too m terms given lawful covers n .0 none) le))
-rounds-stop m lawful given terms covers s (there i) = subst (λ x. (n k : ℕ) → AddsNone m x given terms n → n ≤ k → AddsNone m x given terms k) (sym (only-one i)) (stops-within m terms given)
+rounds-stop m lawful given terms covers s includes n k none le t i h =
+    let same = locality m lawful given terms covers s includes in
+    same k t i .1 (stops-within m terms given n k (λ u j l. same n u j .0 (none u j (same (suc n) u j .1 l))) le t i (same (suc k) t i .0 h))
 
 -- nothing comes from nothing: if a round holds any term, some term was given
 pub some-given : (m : Meaning) → Lawful m → (s : Scope) (given : List Term) (n : ℕ) (t : Term) → Round m s given n t → (u : Term) × (u ∈ given)
@@ -107,6 +102,6 @@ pub least-too : (P Q : ℕ → Type 0) → ((k : ℕ) → P k ↔ Q k) → (n : 
 least-too P Q iff n least = record { holds = iff n .0 (least .holds); none = λ k l h. least .none k l (iff k .1 h) }
 
 pub rounds-are-few : RoundsAreFew
-rounds-are-few m lawful given terms covers t n count i least different =
+rounds-are-few m lawful given terms covers s includes t n count i least different =
     subst (λ c. n < c) (different .counted) (few-within m lawful terms given (different .each) covers (λ u j. different .same u .1 j) t n
-      (least-too (λ k. Round m everywhere given k t) (λ k. Round m (within terms) given k t) (λ k. locality m lawful given terms covers k t i) n least))
+    (least-too (λ k. Round m s given k t) (λ k. Round m (within terms) given k t) (λ k. locality m lawful given terms covers s includes k t i) n least))

@@ -45,9 +45,9 @@ unopened body (two n left right) other = refl
 module _ (n : ℕ) (left : Term) (out : ¬ (n ∈ (2 ∷ 4 ∷ []))) where
   other₁ : Line (one n left) false []
   other₁ = record {
-      can = either (λ b. b ≡ false) (oneOf (reply ∷ []) n) false _ refl (either (λ b. b ≡ false) (oneOf (publicKey ∷ sealed ∷ signature ∷ []) n) _ _ (unlisted (publicKey ∷ []) n (λ i. out (there i))) (unlisted (hash ∷ []) n (λ i. out (in-left (2 ∷ []) (4 ∷ []) i))));
-      takings-are = either (λ ks. ks ≡ []) (oneOf (reply ∷ []) n) [] _ refl (either (λ ks. ks ≡ []) (oneOf (publicKey ∷ sealed ∷ signature ∷ []) n) [] [] refl refl)
-    }
+    can = either (λ b. b ≡ false) (oneOf (reply ∷ []) n) false _ refl (either (λ b. b ≡ false) (oneOf (publicKey ∷ sealed ∷ signature ∷ []) n) _ _ (unlisted (publicKey ∷ []) n (λ i. out (there i))) (unlisted (hash ∷ []) n (λ i. out (in-left (2 ∷ []) (4 ∷ []) i))));
+    takings-are = either (λ ks. ks ≡ []) (oneOf (reply ∷ []) n) [] _ refl (either (λ ks. ks ≡ []) (oneOf (publicKey ∷ sealed ∷ signature ∷ []) n) [] [] refl refl);
+  }
 
 module _ (n : ℕ) (left right : Term) (out : ¬ (n ∈ (1 ∷ 3 ∷ 5 ∷ 6 ∷ 7 ∷ 8 ∷ []))) where
   off : (k : Kind) → number k ∈ (1 ∷ 3 ∷ 5 ∷ 6 ∷ 7 ∷ 8 ∷ []) → is k n ≡ false
@@ -63,24 +63,24 @@ module _ (n : ℕ) (left right : Term) (out : ¬ (n ∈ (1 ∷ 3 ∷ 5 ∷ 6 ∷
       let no-reply : is reply n ≡ false = off reply (there (there (there (there (there (here refl)))))) in
       record {
         can = simp (no-reply, no-pair, no-cipher, no-check, no-sealed, no-signature) (either (λ b. b ≡ false) (is publicKey n || false) false false refl refl);
-        takings-are = simp (no-reply, no-pair, no-cipher, no-sealed, no-signature) (either (λ ks. ks ≡ []) (is publicKey n || false) [] [] refl refl)
+        takings-are = simp (no-reply, no-pair, no-cipher, no-sealed, no-signature) (either (λ ks. ks ≡ []) (is publicKey n || false) [] [] refl refl);
       }
 
 pub table : Table
 table = record {
-    atoms = λ label. record { can = refl; takings-are = refl };
-    pairs = λ left right. record { can = refl; takings-are = refl };
-    hashes = λ body. record { can = refl; takings-are = refl };
-    ciphers = λ body key. record { can = refl; takings-are = refl };
-    public-keys = λ secret. record { can = refl; takings-are = refl };
-    sealed-to-one = λ body secret. record { can = refl; takings-are = refl };
-    sealed-to-none = λ body key other. record { can = refl; takings-are = unopened body key other };
-    signatures = λ body secret. record { can = refl; takings-are = refl };
-    check-values = λ body key. record { can = refl; takings-are = refl };
-    asks = λ asked answered. record { can = refl; takings-are = refl };
-    others₁ = other₁;
-    others₂ = other₂;
-    plain-owns = listed-iff (pair ∷ hash ∷ cipher ∷ checkValue ∷ []);
-    public-keys-own = listed-iff (publicKey ∷ sealed ∷ signature ∷ []);
-    replies-own = listed-iff (reply ∷ [])
-  }
+  atom-line = λ label. record { can = refl; takings-are = refl };
+  pair-line = λ left right. record { can = refl; takings-are = refl };
+  hash-line = λ body. record { can = refl; takings-are = refl };
+  cipher-line = λ body key. record { can = refl; takings-are = refl };
+  public-key-line = λ secret. record { can = refl; takings-are = refl };
+  sealed-line = λ body secret. record { can = refl; takings-are = refl };
+  sealed-shut-line = λ body key other. record { can = refl; takings-are = unopened body key other };
+  signature-line = λ body secret. record { can = refl; takings-are = refl };
+  check-value-line = λ body key. record { can = refl; takings-are = refl };
+  reply-line = λ asked answered. record { can = refl; takings-are = refl };
+  other-line₁ = other₁;
+  other-line₂ = other₂;
+  plain-owns = listed-iff (pair ∷ hash ∷ cipher ∷ checkValue ∷ []);
+  public-keys-own = listed-iff (publicKey ∷ sealed ∷ signature ∷ []);
+  replies-own = listed-iff (reply ∷ []);
+}

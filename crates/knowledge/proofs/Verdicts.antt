@@ -81,7 +81,7 @@ module _ (m : Meaning) (lawful : Lawful m) (given : List Term) (goal : Term) whe
 
   pub same-rounds : (n : ℕ) → goal ∈ held m terms given n ↔ Round m everywhere given n goal
   same-rounds n =
-      let there-and-back = locality m lawful given terms covers n goal (wholes-self (goal ∷ given) goal (here refl)) in
+      let there-and-back = locality m lawful given terms covers everywhere (λ t i. tt) n goal (wholes-self (goal ∷ given) goal (here refl)) in
       (λ i. there-and-back .1 (held-is m terms given n goal .0 i), λ h. held-is m terms given n goal .1 (there-and-back .0 h))
 
   abbrev Holds : ℕ → Type 0

@@ -10,16 +10,19 @@ use Rattle.knowledge.specs.Kinds.{hash, cipher, publicKey, sealed, signature, 
 abbrev pub Denied : List Term → Term → Type 0
 Denied given goal = ¬ (Reachable standard given goal)
 
--- the goal's smallest round
+-- a run reaches the goal, and this is its smallest round
 abbrev pub Granted : List Term → Term → ℕ → Type 0
 Granted given goal n = SmallestRound standard everywhere given goal n
 
+-- a body, which stands nowhere else in its case
 abbrev pub body : Term
 body = atom 1
 
+-- another atom, for a key, a secret or what is asked
 abbrev pub secret : Term
 secret = atom 2
 
+-- what is denied, and what is granted in which round
 pub record Examples : Type 0 where
   -- a cipher alone keeps its body; with its key it gives it, and a key may be built
   pub cipher-alone : Denied (term₂ cipher body secret ∷ []) body

@@ -1,6 +1,6 @@
 -- What a theory means: which terms it takes apart and puts together.
 use Prim.Native.Nat.{ℕ, _≤_}
-use mathlib.Core.Bool.{Bool, true, false, cond, _||_}
+use mathlib.Core.Bool.{Bool, false, cond, _||_}
 use mathlib.Core.List.{List, []}
 use mathlib.Core.Path.{_≡_}
 use lib.ListN.{length}
@@ -40,7 +40,7 @@ pub record Lawful (m : Meaning) : Type 0 where
 -- an upper theory over a lower one: kinds that the upper owns get its steps, all others the lower's
 abbrev pub pile : Meaning → Meaning → Meaning
 pile upper lower = record {
-    owns = λ k. upper .owns k || lower .owns k;
-    builds = λ t. cond (upper .owns (kind t)) (upper .builds t) (lower .builds t);
-    takings = λ t. cond (upper .owns (kind t)) (upper .takings t) (lower .takings t)
-  }
+  owns = λ k. upper .owns k || lower .owns k;
+  builds = λ t. cond (upper .owns (kind t)) (upper .builds t) (lower .builds t);
+  takings = λ t. cond (upper .owns (kind t)) (upper .takings t) (lower .takings t);
+}

@@ -1,6 +1,6 @@
 -- What one step leads to, and what n rounds of steps hold.
 use Prim.Native.Nat.{ℕ, zero, suc, _<_}
-use mathlib.Core.Bool.{true}
+use mathlib.Core.Bool.{Bool, true}
 use mathlib.Core.List.{List}
 use mathlib.Core.Logic.{_⊎_}
 use mathlib.Core.Path.{_≡_}
@@ -26,16 +26,19 @@ pub record Taken (m : Meaning) (Known : Term → Type 0) (t : Term) : Type 0 whe
 abbrev pub Leads : Meaning → (Term → Type 0) → Term → Type 0
 Leads m Known t = Built m Known t ⊎ Taken m Known t
 
--- the terms that count: all there are, or those of a list
+-- which terms count: all there are, those that pass a test, or those of a list
 pub data Scope : Type 0 where
   everywhere : Scope
+  passing : (Term → Bool) → Scope
   within : List Term → Scope
 
+-- a term counts
 abbrev pub Allowed : Scope → Term → Type 0
 Allowed everywhere t = Unit {0}
+Allowed (passing test) t = test t ≡ true
 Allowed (within terms) t = t ∈ terms
 
--- g of what is known: that, together with everything that one step leads to from it
+-- g of what is known: that, together with every term that counts and that one step leads to from it
 abbrev pub g : Meaning → Scope → (Term → Type 0) → Term → Type 0
 g m s Known t = Known t ⊎ (Allowed s t × Leads m Known t)
 

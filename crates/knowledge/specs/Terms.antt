@@ -23,7 +23,6 @@ parts (one k left) = left ∷ []
 parts (two k left right) = left ∷ right ∷ []
 
 infix 40 _∈_
-
 -- an entry stands in a list
 pub data _∈_ {A : Type 0} (x : A) : List A → Type 0 where
   here : {y : A} {ys : List A} → x ≡ y → x ∈ (y ∷ ys)

@@ -6,7 +6,7 @@ use mathlib.Core.Path.{_≡_}
 use lib.ListN.{length}
 use Rattle.knowledge.specs.Terms.{Term, parts, _∈_}
 use Rattle.knowledge.specs.Meanings.{Meaning, Lawful, pile}
-use Rattle.knowledge.specs.Rounds.{Scope, everywhere, within, Round, SmallestRound}
+use Rattle.knowledge.specs.Rounds.{Scope, everywhere, within, Allowed, Round, SmallestRound}
 use Rattle.knowledge.specs.Runs.{Reachable}
 use Rattle.knowledge.specs.Kinds.{plain, publicKeys, replies}
 
@@ -19,10 +19,14 @@ pub record Covers (terms given : List Term) : Type 0 where
   pub parts-too : (t p : Term) → t ∈ terms → p ∈ parts t → p ∈ terms
   pub given-too : (t : Term) → t ∈ given → t ∈ terms
 
--- terms outside such a list do not matter to those in it: each round holds the same of them with or without
+-- all terms of the list count
+abbrev pub Includes : Scope → List Term → Type 0
+Includes s terms = (t : Term) → t ∈ terms → Allowed s t
+
+-- whatever else counts, be it all terms there are, each round holds the same terms of such a list as if only the list counted
 abbrev pub Locality : Type 0
-Locality = (m : Meaning) → Lawful m → (given terms : List Term) → Covers terms given
-  → (n : ℕ) (t : Term) → t ∈ terms → Round m everywhere given n t ↔ Round m (within terms) given n t
+Locality = (m : Meaning) → Lawful m → (given terms : List Term) → Covers terms given → (s : Scope) → Includes s terms
+    → (n : ℕ) (t : Term) → t ∈ terms → Round m s given n t ↔ Round m (within terms) given n t
 
 -- the round after n adds no term of the list
 abbrev pub AddsNone : Meaning → Scope → List Term → List Term → ℕ → Type 0
@@ -30,9 +34,8 @@ AddsNone m s given terms n = (t : Term) → t ∈ terms → Round m s given (suc
 
 -- where one round adds no term of such a list, no later one does
 abbrev pub RoundsStop : Type 0
-RoundsStop = (m : Meaning) → Lawful m → (given terms : List Term) → Covers terms given
-  → (s : Scope) → s ∈ (everywhere ∷ within terms ∷ [])
-  → (n k : ℕ) → AddsNone m s given terms n → n ≤ k → AddsNone m s given terms k
+RoundsStop = (m : Meaning) → Lawful m → (given terms : List Term) → Covers terms given → (s : Scope) → Includes s terms
+    → (n k : ℕ) → AddsNone m s given terms n → n ≤ k → AddsNone m s given terms k
 
 -- no entry stands twice
 abbrev pub Once : List Term → Type 0
@@ -48,8 +51,8 @@ pub record Different (terms : List Term) (count : ℕ) : Type 0 where
 
 -- a term of such a list has its smallest round below the number of its different terms
 abbrev pub RoundsAreFew : Type 0
-RoundsAreFew = (m : Meaning) → Lawful m → (given terms : List Term) → Covers terms given
-  → (t : Term) (n count : ℕ) → t ∈ terms → SmallestRound m everywhere given t n → Different terms count → n < count
+RoundsAreFew = (m : Meaning) → Lawful m → (given terms : List Term) → Covers terms given → (s : Scope) → Includes s terms
+    → (t : Term) (n count : ℕ) → t ∈ terms → SmallestRound m s given t n → Different terms count → n < count
 
 -- every list has such a number, and only one
 abbrev pub DifferentCounts : Type 0
@@ -58,7 +61,7 @@ DifferentCounts = (terms : List Term) → (count : ℕ) × Different terms count
 -- more given terms keep every round
 abbrev pub MoreGiven : Type 0
 MoreGiven = (m : Meaning) (s : Scope) (given more : List Term) → ((t : Term) → t ∈ given → t ∈ more)
-  → (n : ℕ) (t : Term) → Round m s given n t → Round m s more n t
+    → (n : ℕ) (t : Term) → Round m s given n t → Round m s more n t
 
 -- the three theories keep the laws, and so does a pile of two that do
 pub record LawfulTheories : Type 0 where
@@ -70,4 +73,4 @@ pub record LawfulTheories : Type 0 where
 -- each goal has a smallest round, or no run reaches it
 abbrev pub GoalsAreSettled : Type 0
 GoalsAreSettled = (m : Meaning) → Lawful m → (given : List Term) (goal : Term)
-  → ((n : ℕ) × SmallestRound m everywhere given goal n) ⊎ (¬ (Reachable m given goal))
+    → ((n : ℕ) × SmallestRound m everywhere given goal n) ⊎ (¬ (Reachable m given goal))

@@ -1,11 +1,11 @@
 -- The examples, each by working out the verdict.
 use Prim.Native.Nat.{ℕ}
 use native.Mathlib.Decide.{ℕ-discrete}
-use mathlib.Core.List.{List, [], _∷_}
-use mathlib.Core.Path.{_≡_, refl}
-use Rattle.knowledge.specs.Terms.{Term, atom}
-use Rattle.knowledge.specs.Kinds.{hash, cipher, publicKey, sealed, signature, reply, term₁, term₂, standard}
-use Rattle.knowledge.specs.Examples.{Denied, Granted, body, secret, Examples}
+use mathlib.Core.List.{List}
+use mathlib.Core.Path.{refl}
+use Rattle.knowledge.specs.Terms.{Term}
+use Rattle.knowledge.specs.Kinds.{standard}
+use Rattle.knowledge.specs.Examples.{Denied, Granted, Examples}
 use Rattle.knowledge.proofs.Laws.{standard-lawful}
 use Rattle.knowledge.proofs.Verdicts.{verdict, Grants, Denies, granted, denied}
 

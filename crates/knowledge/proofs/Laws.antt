@@ -3,29 +3,50 @@ use Prim.Native.Nat.{ℕ, _≤_}
 use native.Mathlib.Omega.{arith}
 use mathlib.Core.Bool.{Bool, true, false, cond, _||_, true≢false}
 use mathlib.Core.List.{List, [], _∷_}
+use mathlib.Core.Logic.{_⊎_, inl, inr, _↔_}
 use mathlib.Core.Path.{_≡_, refl, sym, subst}
 use lib.ListN.{length}
-use Rattle.std.specs.declared.option.Option.the-variants.{Some}
+use Rattle.std.specs.declared.option.Option.{Option}
+use Rattle.std.specs.declared.option.Option.the-variants.{None, Some}
 use Rattle.knowledge.specs.Terms.{Term, atom, one, two, kind, parts, _∈_, here, there, Inside, part, deeper}
 use Rattle.knowledge.specs.Meanings.{Taking, Meaning, NoStep, Lawful, pile}
-use Rattle.knowledge.specs.Kinds.{Kind, pair, hash, cipher, publicKey, sealed, signature, checkValue, reply, is, oneOf, buildable, takes, freely, knowing, plain, opened, publicKeys, replies, standard}
-use Rattle.knowledge.specs.Theorems.{LawfulTheories}
+use Rattle.knowledge.specs.Kinds.{Kind, pair, hash, cipher, publicKey, sealed, signature, checkValue, reply, is, oneOf, buildable, takes, plain, opened, publicKeys, replies, standard}
+use Rattle.knowledge.specs.Theorems.{LawfulTheories, Piled}
 use Rattle.knowledge.proofs.Lists.{no-side, same-side}
 
--- what the laws ask of a taking
-abbrev Sound : Term → Taking → Type 0
-Sound t k = (k .result ∈ parts t) × ((s : Term) → k .side ≡ Some s → Inside s t)
+-- what the laws ask of a term's takings: at most two, each with a part for its result and a side from inside
+abbrev SideInside : Option Term → Term → Type 0
+SideInside None t = Unit {0}
+SideInside (Some s) t = Inside s t
 
-none-sound : (t : Term) (k : Taking) → k ∈ [] → Sound t k
-none-sound t k i = elim i [ ]
+abbrev Each : Term → List Taking → Type 0
+Each t [] = Unit {0}
+Each t (k ∷ ks) = ((k .result ∈ parts t) × SideInside (k .side) t) × Each t ks
 
-free-sound : (t r : Term) → r ∈ parts t → (ks : List Taking) → ((k : Taking) → k ∈ ks → Sound t k) → (k : Taking) → k ∈ (freely r ∷ ks) → Sound t k
-free-sound t r i ks rest k (here e) = subst (Sound t) (sym e) (i, λ s f. absurd (no-side f))
-free-sound t r i ks rest k (there j) = rest k j
+abbrev Kept : Term → List Taking → Type 0
+Kept t ks = (length ks ≤ 2) × Each t ks
 
-side-sound : (t s r : Term) → Inside s t → r ∈ parts t → (k : Taking) → k ∈ (knowing s r ∷ []) → Sound t k
-side-sound t s r h i k (here e) = subst (Sound t) (sym e) (i, λ u f. subst (λ x. Inside x t) (same-side f) h)
-side-sound t s r h i k (there j) = elim j [ ]
+in-the-left : (s left right : Term) (n : ℕ) → Inside s left → Inside s (two n left right)
+in-the-left s left right n h = deeper (here refl) h
+
+in-the-right : (s left right : Term) (n : ℕ) → Inside s right → Inside s (two n left right)
+in-the-right s left right n h = deeper (there (here refl)) h
+
+ruleset inside = (here, there, part, in-the-left, in-the-right, refl)
+
+each-result : (t : Term) (ks : List Taking) (k : Taking) → Each t ks → k ∈ ks → k .result ∈ parts t
+each-result t [] k each i = elim i [ ]
+each-result t (x ∷ xs) k (first, rest) (here e) = subst (λ y. y .result ∈ parts t) (sym e) (first .0)
+each-result t (x ∷ xs) k (first, rest) (there i) = each-result t xs k rest i
+
+side-inside : (side : Option Term) (t s : Term) → SideInside side t → side ≡ Some s → Inside s t
+side-inside None t s h e = absurd (no-side e)
+side-inside (Some u) t s h e = subst (λ x. Inside x t) (same-side e) h
+
+each-side : (t : Term) (ks : List Taking) (k : Taking) (s : Term) → Each t ks → k ∈ ks → k .side ≡ Some s → Inside s t
+each-side t [] k s each i e = elim i [ ]
+each-side t (x ∷ xs) k s (first, rest) (here f) e = side-inside (x .side) t s (first .1) (subst (λ y. y .side ≡ Some s) f e)
+each-side t (x ∷ xs) k s (first, rest) (there i) e = each-side t xs k s rest i e
 
 -- what holds of either of two holds of the one that a test picks
 pub either : {A : Type 0} (P : A → Type 0) (b : Bool) (x y : A) → P x → P y → P (cond b x y)
@@ -56,21 +77,20 @@ module _ (owned ones twos : List Kind) (from : ℕ → Term → Term → List Ta
   theory = record { owns = oneOf owned; builds = buildable ones twos; takings = takes from }
 
   by-kinds : ((k : Kind) → k ∈ ones → k ∈ owned) → ((k : Kind) → k ∈ twos → k ∈ owned)
-      → ((n : ℕ) (left right : Term) → length (from n left right) ≤ 2)
-      → ((n : ℕ) (left right : Term) (k : Taking) → k ∈ from n left right → Sound (two n left right) k)
+      → ((n : ℕ) (left right : Term) → Kept (two n left right) (from n left right))
       → ((n : ℕ) (left right : Term) → ((k : Kind) → k ∈ owned → is k n ≡ false) → from n left right ≡ []) → Lawful theory
-  by-kinds ones-owned twos-owned small sound none = record {
-    few = elim [ atom label ↦ omega arith | one n left ↦ omega arith | two n left right ↦ small n left right ];
+  by-kinds ones-owned twos-owned keeps none = record {
+    few = λ t. kept t .0;
     atoms = λ label. record { unbuilt = refl; untaken = refl };
-    results = λ t k i. all-sound t k i .0;
-    sides = λ t k s i. all-sound t k i .1 s;
+    results = λ t k i. each-result t (takes from t) k (kept t .1) i;
+    sides = λ t k s i. each-side t (takes from t) k s (kept t .1) i;
     foreign = λ t e. record { unbuilt = unbuilt t e; untaken = untaken t e };
   }
     where
-      all-sound : (t : Term) (k : Taking) → k ∈ takes from t → Sound t k
-      all-sound (atom label) k i = elim i [ ]
-      all-sound (one n left) k i = elim i [ ]
-      all-sound (two n left right) k i = sound n left right k i
+      kept : (t : Term) → Kept t (takes from t)
+      kept (atom label) = (omega arith, tt)
+      kept (one n left) = (omega arith, tt)
+      kept (two n left right) = keeps n left right
 
       unbuilt : (t : Term) → oneOf owned (kind t) ≡ false → buildable ones twos t ≡ false
       unbuilt (atom label) e = refl
@@ -88,6 +108,26 @@ pile-no-step upper lower t u l = record {
   untaken = either (λ ks. ks ≡ []) (upper .owns (kind t)) (upper .takings t) (lower .takings t) (u .untaken) (l .untaken);
 }
 
+-- a test picks what it says
+on : {A : Type 0} (b : Bool) (x y : A) → b ≡ true → cond b x y ≡ x
+on true x y e = refl
+on false x y e = absurd (true≢false (sym e))
+
+off : {A : Type 0} (b : Bool) (x y : A) → b ≡ false → cond b x y ≡ y
+off true x y e = absurd (true≢false e)
+off false x y e = refl
+
+one-on : (a b : Bool) → (a || b) ≡ true ↔ ((a ≡ true) ⊎ (b ≡ true))
+one-on true b = (λ e. inl refl, λ e. refl)
+one-on false b = (inr, elim [ inl e ↦ absurd (true≢false (sym e)) | inr e ↦ e ])
+
+pub piled : (upper lower : Meaning) → Piled upper lower
+piled upper lower = record {
+  on-owned = λ t e. record { same-builds = on (upper .owns (kind t)) _ _ e; same-takings = on (upper .owns (kind t)) _ _ e };
+  on-others = λ t e. record { same-builds = off (upper .owns (kind t)) _ _ e; same-takings = off (upper .owns (kind t)) _ _ e };
+  owns-both = λ k. one-on (upper .owns k) (lower .owns k);
+}
+
 pub pile-lawful : (upper lower : Meaning) → Lawful upper → Lawful lower → Lawful (pile upper lower)
 pile-lawful upper lower u l = record {
   few = λ t. either (λ ks. length ks ≤ 2) (upper .owns (kind t)) (upper .takings t) (lower .takings t) (u .few t) (l .few t);
@@ -100,36 +140,24 @@ pile-lawful upper lower u l = record {
 plain-lawful : Lawful plain
 plain-lawful = by-kinds (pair ∷ hash ∷ cipher ∷ checkValue ∷ []) (hash ∷ []) (pair ∷ cipher ∷ checkValue ∷ []) _
     (λ k. elim [ here e ↦ there (here e) | there i ↦ elim i [ ] ]) (λ k. elim [ here e ↦ here e | there i ↦ there (there i) ])
-    (λ n left right. either (λ ks. length ks ≤ 2) (is pair n) _ _ (omega arith) (either (λ ks. length ks ≤ 2) (is cipher n) _ _ (omega arith) (omega arith)))
-    (λ n left right. let t : Term = two n left right in
-    either (λ ks. (k : Taking) → k ∈ ks → Sound t k) (is pair n) _ _ (free-sound t left (here refl) _ (free-sound t right (there (here refl)) [] (none-sound t)))
-    (either (λ ks. (k : Taking) → k ∈ ks → Sound t k) (is cipher n) _ _ (side-sound t right left (part (there (here refl))) (here refl)) (none-sound t)))
+    (λ n left right. either (Kept (two n left right)) (is pair n) _ _ (omega arith, search inside) (either (Kept (two n left right)) (is cipher n) _ _ (omega arith, search inside) (omega arith, tt)))
     (λ n left right off. untested (is pair n) _ _ (off pair (here refl)) (untested (is cipher n) _ _ (off cipher (there (there (here refl)))) refl))
 
 -- a sealed term's taking, whatever its key
-opened-few : (body key : Term) → length (opened body key) ≤ 2
-opened-few body (atom label) = omega arith
-opened-few body (one n secret) = either (λ ks. length ks ≤ 2) (is publicKey n) _ _ (omega arith) (omega arith)
-opened-few body (two n left right) = omega arith
-
-opened-sound : (n : ℕ) (body key : Term) (k : Taking) → k ∈ opened body key → Sound (two n body key) k
-opened-sound n body (atom label) = none-sound _
-opened-sound n body (one l secret) = let t : Term = two n body (one l secret) in
-    either (λ ks. (k : Taking) → k ∈ ks → Sound t k) (is publicKey l) _ _ (side-sound t secret body (deeper (there (here refl)) (part (here refl))) (here refl)) (none-sound t)
-opened-sound n body (two l left right) = none-sound _
+opened-kept : (n : ℕ) (body key : Term) → Kept (two n body key) (opened body key)
+opened-kept n body (atom label) = (omega arith, tt)
+opened-kept n body (one l secret) = either (Kept (two n body (one l secret))) (is publicKey l) _ _ (omega arith, search inside) (omega arith, tt)
+opened-kept n body (two l left right) = (omega arith, tt)
 
 public-key-lawful : Lawful publicKeys
 public-key-lawful = by-kinds (publicKey ∷ sealed ∷ signature ∷ []) (publicKey ∷ []) (sealed ∷ signature ∷ []) _
     (λ k. elim [ here e ↦ here e | there i ↦ elim i [ ] ]) (λ k i. there i)
-    (λ n body key. either (λ ks. length ks ≤ 2) (is sealed n) _ _ (opened-few body key) (omega arith))
-    (λ n body key. either (λ ks. (k : Taking) → k ∈ ks → Sound (two n body key) k) (is sealed n) _ _ (opened-sound n body key) (none-sound (two n body key)))
+    (λ n body key. either (Kept (two n body key)) (is sealed n) _ _ (opened-kept n body key) (omega arith, tt))
     (λ n body key off. untested (is sealed n) _ _ (off sealed (there (here refl))) refl)
 
 reply-lawful : Lawful replies
 reply-lawful = by-kinds (reply ∷ []) [] [] _ (λ k i. elim i [ ]) (λ k i. elim i [ ])
-    (λ n asked answered. either (λ ks. length ks ≤ 2) (is reply n) _ _ (omega arith) (omega arith))
-    (λ n asked answered. let t : Term = two n asked answered in
-    either (λ ks. (k : Taking) → k ∈ ks → Sound t k) (is reply n) _ _ (side-sound t asked answered (part (here refl)) (there (here refl))) (none-sound t))
+    (λ n asked answered. either (Kept (two n asked answered)) (is reply n) _ _ (omega arith, search inside) (omega arith, tt))
     (λ n asked answered off. untested (is reply n) _ _ (off reply (here refl)) refl)
 
 pub lawful-theories : LawfulTheories

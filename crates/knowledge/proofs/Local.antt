@@ -1,12 +1,12 @@
 -- What lies outside a list closed under parts is of no use to what lies in it.
 use Prim.Native.Nat.{ℕ, zero, suc}
-use mathlib.Core.List.{List, [], _∷_}
+use mathlib.Core.List.{List}
 use mathlib.Core.Logic.{_⊎_, inl, inr, ⊎-elim}
-use mathlib.Core.Path.{_≡_, refl, sym, subst}
+use mathlib.Core.Path.{_≡_, subst}
 use Rattle.std.specs.declared.option.Option.the-variants.{Some}
-use Rattle.knowledge.specs.Terms.{Term, parts, _∈_, here, there, Inside, part, deeper}
+use Rattle.knowledge.specs.Terms.{Term, parts, _∈_, Inside, part, deeper}
 use Rattle.knowledge.specs.Meanings.{Meaning, Lawful}
-use Rattle.knowledge.specs.Rounds.{Built, Taken, Leads, everywhere, within, Round}
+use Rattle.knowledge.specs.Rounds.{Built, Taken, everywhere, within, Round}
 use Rattle.knowledge.specs.Theorems.{Covers, Locality}
 use Rattle.knowledge.proofs.Steps.{leads-more, rounds-more}
 use Rattle.knowledge.proofs.Decided.{in?}

@@ -1,13 +1,13 @@
 -- What a run reaches, a round holds, and the other way round.
 use Prim.Native.Nat.{ℕ, zero, suc}
 use mathlib.Core.List.{List, [], _∷_, _++_, append-assoc, append-nil}
-use mathlib.Core.Logic.{_⊎_, inl, inr, _↔_}
+use mathlib.Core.Logic.{_⊎_, inl, inr}
 use mathlib.Core.Path.{_≡_, refl, sym, _∙_, ap, subst}
 use Rattle.std.specs.declared.option.Option.{Option}
 use Rattle.std.specs.declared.option.Option.the-variants.{None, Some}
 use Rattle.knowledge.specs.Terms.{Term, parts, _∈_, here, there}
 use Rattle.knowledge.specs.Meanings.{Meaning}
-use Rattle.knowledge.specs.Rounds.{Built, Taken, Leads, everywhere, Round}
+use Rattle.knowledge.specs.Rounds.{Leads, everywhere, Round}
 use Rattle.knowledge.specs.Runs.{Run, Reachable}
 use Rattle.knowledge.specs.Theorems.{RunsAreRounds}
 use Rattle.knowledge.proofs.Lists.{in-left, in-right, in-either, only-one, cut-lies, cut-one, cut-none, no-side, same-side}

@@ -2,10 +2,10 @@
 use Prim.Native.Nat.{ℕ, zero, suc, _≤_}
 use native.Mathlib.Decide.{le-ind}
 use mathlib.Core.List.{List}
-use mathlib.Core.Logic.{_⊎_, inl, inr}
+use mathlib.Core.Logic.{inl, inr}
 use Rattle.knowledge.specs.Terms.{Term, _∈_}
 use Rattle.knowledge.specs.Meanings.{Meaning}
-use Rattle.knowledge.specs.Rounds.{Built, Taken, Leads, Scope, everywhere, within, Allowed, g, Round}
+use Rattle.knowledge.specs.Rounds.{Leads, Scope, Allowed, Round}
 use Rattle.knowledge.specs.Theorems.{MoreGiven}
 
 pub leads-more : (m : Meaning) (Known More : Term → Type 0) → ((u : Term) → Known u → More u) → (t : Term) → Leads m Known t → Leads m More t

@@ -1,20 +1,20 @@
 -- Rounds come to an end: each adds a term of the list, or it and all later ones add none.
-use Prim.Native.Nat.{ℕ, zero, suc, _+_, _-_, _≤_, _<_}
+use Prim.Native.Nat.{ℕ, zero, suc, _≤_, _<_}
 use native.Mathlib.Decide.{le-ind}
 use native.Mathlib.Nat.{le-trans}
 use native.Mathlib.Omega.{arith}
 use mathlib.Core.Bool.{true≢false}
-use mathlib.Core.List.{List, [], _∷_, _++_}
-use mathlib.Core.Logic.{_⊎_, inl, inr, ⊎-elim, _↔_}
-use mathlib.Core.Path.{_≡_, refl, sym, _∙_, subst}
+use mathlib.Core.List.{List, [], _∷_}
+use mathlib.Core.Logic.{_⊎_, inl, inr, _↔_}
+use mathlib.Core.Path.{refl, sym, _∙_, subst}
 use lib.ListN.{length}
-use Rattle.knowledge.specs.Terms.{Term, atom, one, two, parts, _∈_, here, there}
+use Rattle.knowledge.specs.Terms.{Term, atom, one, two, _∈_, here, there}
 use Rattle.knowledge.specs.Meanings.{Meaning, Lawful}
-use Rattle.knowledge.specs.Rounds.{Built, Taken, Leads, Scope, everywhere, within, Round, Least, SmallestRound}
-use Rattle.knowledge.specs.Theorems.{Covers, AddsNone, RoundsStop, Different, RoundsAreFew}
-use Rattle.knowledge.proofs.Lists.{in-left, only-one}
+use Rattle.knowledge.specs.Rounds.{Scope, within, Round, Least, SmallestRound}
+use Rattle.knowledge.specs.Theorems.{Covers, AddsNone, RoundsStop, RoundsAreFew}
+use Rattle.knowledge.proofs.Lists.{in-left}
 use Rattle.knowledge.proofs.Steps.{leads-more, round-on}
-use Rattle.knowledge.proofs.Decided.{in?, kept, keep, kept-from, kept-into, held, held-is}
+use Rattle.knowledge.proofs.Decided.{in?, kept, keep, kept-into, held, held-is}
 use Rattle.knowledge.proofs.Local.{locality}
 
 module _ (m : Meaning) (terms given : List Term) where

@@ -1,14 +1,14 @@
 -- The table of kinds, read off the definitions.
 use Prim.Native.Nat.{ℕ}
 use mathlib.Core.Bool.{Bool, true, false, _||_, false≢true}
-use mathlib.Core.List.{List, [], _∷_, _++_, map}
-use mathlib.Core.Logic.{_↔_, ⊎-elim}
-use mathlib.Core.Path.{_≡_, refl, sym, _∙_, ap, subst}
+use mathlib.Core.List.{List, [], _∷_, map}
+use mathlib.Core.Logic.{_↔_}
+use mathlib.Core.Path.{_≡_, refl, sym, ap, subst}
 use borrow.Author.Tests.{eqb-true, eq-eqb, ne-eqb}
 use Rattle.knowledge.specs.Terms.{Term, atom, one, two, _∈_, here, there}
-use Rattle.knowledge.specs.Kinds.{Kind, pair, hash, cipher, publicKey, sealed, signature, checkValue, reply, number, term₁, is, oneOf, opened, plain, publicKeys, replies, standard}
+use Rattle.knowledge.specs.Kinds.{Kind, pair, hash, cipher, publicKey, sealed, signature, checkValue, reply, number, term₁, is, oneOf, opened}
 use Rattle.knowledge.specs.Table.{Line, Table}
-use Rattle.knowledge.proofs.Lists.{in-left, in-right, in-either}
+use Rattle.knowledge.proofs.Lists.{in-left}
 use Rattle.knowledge.proofs.Laws.{either, untested}
 
 -- a number is a listed kind's exactly if it stands among the kinds' numbers

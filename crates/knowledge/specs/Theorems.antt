@@ -1,10 +1,11 @@
 -- What holds of every theory that keeps the laws.
 use Prim.Native.Nat.{ℕ, suc, _≤_, _<_}
+use mathlib.Core.Bool.{true, false}
 use mathlib.Core.List.{List, [], _∷_}
 use mathlib.Core.Logic.{_⊎_, _↔_}
 use mathlib.Core.Path.{_≡_}
 use lib.ListN.{length}
-use Rattle.knowledge.specs.Terms.{Term, parts, _∈_}
+use Rattle.knowledge.specs.Terms.{Term, kind, parts, _∈_}
 use Rattle.knowledge.specs.Meanings.{Meaning, Lawful, pile}
 use Rattle.knowledge.specs.Rounds.{Scope, everywhere, within, Allowed, Round, SmallestRound}
 use Rattle.knowledge.specs.Runs.{Reachable}
@@ -69,6 +70,21 @@ pub record LawfulTheories : Type 0 where
   pub public-key-keeps : Lawful publicKeys
   pub reply-keeps : Lawful replies
   pub pile-keeps : (upper lower : Meaning) → Lawful upper → Lawful lower → Lawful (pile upper lower)
+
+-- of a term, two theories have the same steps
+pub record SameSteps (m l : Meaning) (t : Term) : Type 0 where
+  pub same-builds : m .builds t ≡ l .builds t
+  pub same-takings : m .takings t ≡ l .takings t
+
+-- what a pile is: it has the upper's steps on kinds that the upper owns and the lower's on all others, and owns what either owns
+pub record Piled (upper lower : Meaning) : Type 0 where
+  pub on-owned : (t : Term) → upper .owns (kind t) ≡ true → SameSteps (pile upper lower) upper t
+  pub on-others : (t : Term) → upper .owns (kind t) ≡ false → SameSteps (pile upper lower) lower t
+  pub owns-both : (k : ℕ) → pile upper lower .owns k ≡ true ↔ ((upper .owns k ≡ true) ⊎ (lower .owns k ≡ true))
+
+-- that holds of every pile
+abbrev pub PilesHold : Type 0
+PilesHold = (upper lower : Meaning) → Piled upper lower
 
 -- each goal has a smallest round, or no run reaches it
 abbrev pub GoalsAreSettled : Type 0

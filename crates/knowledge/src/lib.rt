@@ -10,6 +10,7 @@ ghost use Rattle.knowledge.specs.Theorems.{
   LawfulTheories,
   Locality,
   MoreGiven,
+  PilesHold,
   RoundsAreFew,
   RoundsStop,
   RunsAreRounds,
@@ -20,8 +21,8 @@ pub fn runs_are_rounds()
     ensures { λ _. ⌜ RunsAreRounds ⌝ }
 {}
 
-/// Terms outside a list that is closed under parts and has the given terms make no difference to the terms in it: each round
-/// holds the same of these with or without the others.
+/// Terms outside a list that is closed under parts and has the given terms make no difference to the terms in it: over all
+/// terms there are, each round holds the same terms of the list as within the list.
 pub fn locality()
     ensures { λ _. ⌜ Locality ⌝ }
 {}
@@ -45,6 +46,11 @@ pub fn more_given()
 /// The three theories keep the laws, and so does a pile of two theories that do.
 pub fn theories_are_lawful()
     ensures { λ _. ⌜ LawfulTheories ⌝ }
+{}
+
+/// What a pile of two theories does with a term, and which kinds it owns.
+pub fn piles_hold()
+    ensures { λ _. ⌜ PilesHold ⌝ }
 {}
 
 /// What the three theories do with each kind of term, and which kinds each owns.

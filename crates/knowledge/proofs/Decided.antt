@@ -148,8 +148,8 @@ held-is m terms given (suc n) t = (λ i. onto (λ u. held-is m terms given n u .
 
     onto : ((u : Term) → u ∈ before → Round m (within terms) given n u) → (t ∈ before) ⊎ (t ∈ after) → Round m (within terms) given (suc n) t
     onto below (inl i) = inl (below t i)
-    onto below (inr i) = let (a, l) = kept-from (Leads m InBefore) (leads? m before) terms t i in inr (a, leads-more m InBefore (Round m (within terms) given n) below t l)
+    onto below (inr i) = let (a, l) = kept-from (Leads m InBefore) (leads? m before) terms t i in inr (a, leads-more m InBefore (Round m (within terms) given n) t below l)
 
     back : ((u : Term) → Round m (within terms) given n u → u ∈ before) → Round m (within terms) given (suc n) t → t ∈ (before ++ after)
     back above (inl h) = in-left before after (above t h)
-    back above (inr (a, l)) = in-right before after (kept-into (Leads m InBefore) (leads? m before) terms t a (leads-more m (Round m (within terms) given n) InBefore above t l))
+    back above (inr (a, l)) = in-right before after (kept-into (Leads m InBefore) (leads? m before) terms t a (leads-more m (Round m (within terms) given n) InBefore t above l))

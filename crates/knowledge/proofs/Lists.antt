@@ -2,7 +2,7 @@
 use Prim.Native.Nat.{ℕ}
 use native.Mathlib.Omega.{arith}
 use mathlib.Core.List.{List, [], _∷_, _++_, nil≢cons, head-eq-of-cons-eq, tail-eq-of-cons-eq}
-use mathlib.Core.Logic.{_⊎_, inl, inr}
+use mathlib.Core.Logic.{_⊎_, inl, inr, ⊎-elim}
 use mathlib.Core.Path.{_≡_, refl, ap}
 use Rattle.std.specs.declared.option.Option.the-variants.{None, Some}
 use Rattle.knowledge.specs.Terms.{_∈_, here, there}
@@ -19,25 +19,27 @@ in-right (z ∷ xs) ys i = there (in-right xs ys i)
 pub in-either : {A : Type 0} {x : A} (xs ys : List A) → x ∈ (xs ++ ys) → (x ∈ xs) ⊎ (x ∈ ys)
 in-either [] ys i = inr i
 in-either (z ∷ xs) ys (here e) = inl (here e)
-in-either {x = x} (z ∷ xs) ys (there i) = onward (in-either xs ys i)
-  where
-    onward : (x ∈ xs) ⊎ (x ∈ ys) → (x ∈ (z ∷ xs)) ⊎ (x ∈ ys)
-    onward (inl j) = inl (there j)
-    onward (inr j) = inr j
+in-either (z ∷ xs) ys (there i) = ⊎-elim (λ j. inl (there j)) inr (in-either xs ys i)
+
+-- what leads from one entry to another in each of two lists does so in the two put together
+pub in-both : {A : Type 0} {x y : A} (xs ys : List A) → (x ∈ xs → y ∈ xs) → (x ∈ ys → y ∈ ys) → x ∈ (xs ++ ys) → y ∈ (xs ++ ys)
+in-both xs ys f h i = ⊎-elim (λ j. in-left xs ys (f j)) (λ j. in-right xs ys (h j)) (in-either xs ys i)
 
 pub only-one : {A : Type 0} {x y : A} → x ∈ (y ∷ []) → x ≡ y
 only-one (here e) = e
 only-one (there i) = elim i [ ]
 
 -- a cut of two lists put together lies in the first, or in the second
-pub cut-lies : {A : Type 0} (xs ys earlier : List A) (t : A) (later : List A) → xs ++ ys ≡ earlier ++ (t ∷ later)
-    → ((rest : List A) × (xs ≡ earlier ++ (t ∷ rest))) ⊎ ((front : List A) × (earlier ≡ xs ++ front) × (ys ≡ front ++ (t ∷ later)))
-cut-lies [] ys earlier t later e = inr (earlier, refl, e)
-cut-lies (x ∷ xs) ys [] t later e = inl (xs, ap (λ h. h ∷ xs) (head-eq-of-cons-eq e))
-cut-lies {A} (x ∷ xs) ys (y ∷ earlier) t later e = onward (cut-lies xs ys earlier t later (tail-eq-of-cons-eq e))
+abbrev pub Cut : {A : Type 0} → List A → List A → List A → A → List A → Type 0
+Cut {A} xs ys earlier t later = ((rest : List A) × (xs ≡ earlier ++ (t ∷ rest)))
+    ⊎ ((front : List A) × (earlier ≡ xs ++ front) × (ys ≡ front ++ (t ∷ later)))
+
+pub cut : {A : Type 0} (xs ys earlier : List A) (t : A) (later : List A) → xs ++ ys ≡ earlier ++ (t ∷ later) → Cut xs ys earlier t later
+cut [] ys earlier t later e = inr (earlier, refl, e)
+cut (x ∷ xs) ys [] t later e = inl (xs, ap (λ h. h ∷ xs) (head-eq-of-cons-eq e))
+cut (x ∷ xs) ys (y ∷ earlier) t later e = onward (cut xs ys earlier t later (tail-eq-of-cons-eq e))
   where
-    onward : ((rest : List A) × (xs ≡ earlier ++ (t ∷ rest))) ⊎ ((front : List A) × (earlier ≡ xs ++ front) × (ys ≡ front ++ (t ∷ later)))
-        → ((rest : List A) × (x ∷ xs ≡ y ∷ (earlier ++ (t ∷ rest)))) ⊎ ((front : List A) × (y ∷ earlier ≡ x ∷ (xs ++ front)) × (ys ≡ front ++ (t ∷ later)))
+    onward : Cut xs ys earlier t later → Cut (x ∷ xs) ys (y ∷ earlier) t later
     onward (inl (rest, f)) = inl (rest, let h = head-eq-of-cons-eq e in cc)
     onward (inr (front, f, f′)) = inr (front, let h = head-eq-of-cons-eq e in cc, f′)
 

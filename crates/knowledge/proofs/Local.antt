@@ -8,7 +8,7 @@ use Rattle.knowledge.specs.Terms.{Term, parts, _∈_, Inside, part, deeper}
 use Rattle.knowledge.specs.Meanings.{Meaning, Lawful}
 use Rattle.knowledge.specs.Rounds.{Built, Taken, everywhere, within, Round}
 use Rattle.knowledge.specs.Theorems.{Covers, Locality}
-use Rattle.knowledge.proofs.Steps.{leads-more, rounds-more}
+use Rattle.knowledge.proofs.Steps.{built-again, taken-again, leads-more, rounds-more}
 use Rattle.knowledge.proofs.Decided.{in?}
 
 -- what is inside a term of the list is in it too
@@ -34,10 +34,13 @@ module _ (m : Meaning) (lawful : Lawful m) (terms given : List Term) (covers : C
   idle-in (suc n) t j (inl (i, h)) = h
   idle-in (suc n) t j (inr (out, below)) = absurd (out j)
 
-  -- the two ways to a term, each decided by where the term it starts from lies
+  -- the two ways to a term, by where the term they start from lies
   idle-built : (n : ℕ) (t : Term) → Built m (Idle n) t → Dec (t ∈ terms) → Idle (suc n) t
   unfolding Idle
-  idle-built n t b (yes i) = inl (i, inr (i, inl (record { can = b .can; known = λ p j. idle-in n p (covers .parts-too t p i j) (b .known p j) })))
+  idle-built n t b (yes i) = inl (i, inr (i, inl (built-again m (Idle n) (Round m (within terms) given n) t b known)))
+    where
+      known : (p : Term) → p ∈ parts t → Round m (within terms) given n p
+      known p j = idle-in n p (covers .parts-too t p i j) (b .known p j)
   idle-built n t b (no out) = inr (out, b .known)
 
   idle-taken : (n : ℕ) (t : Term) (k : Taken m (Idle n) t) → Idle (suc n) t
@@ -47,8 +50,8 @@ module _ (m : Meaning) (lawful : Lawful m) (terms given : List Term) (covers : C
       result : t ∈ parts (k .main)
       result = subst (λ r. r ∈ parts (k .main)) (k .gives) (lawful .results (k .main) (k .taking) (k .of-main))
 
-      beside : k .main ∈ terms → (s : Term) → k .taking .side ≡ Some s → Round m (within terms) given n s
-      beside i s e = idle-in n s (inside-too terms given covers s (k .main) (lawful .sides (k .main) (k .taking) s (k .of-main) e) i) (k .beside s e)
+      inside : (s : Term) → k .taking .side ≡ Some s → Inside s (k .main)
+      inside s e = lawful .sides (k .main) (k .taking) s (k .of-main) e
 
       outside : (n : ℕ) → ¬ (k .main ∈ terms) → Idle n (k .main) → Idle n t
       outside zero out (i, h) = absurd (out i)
@@ -56,23 +59,29 @@ module _ (m : Meaning) (lawful : Lawful m) (terms given : List Term) (covers : C
       outside (suc n) out (inr (o, below)) = idle-on n t (below t result)
 
       by-main : Dec (k .main ∈ terms) → Idle (suc n) t
-      by-main (yes i) = inl (
-        covers .parts-too (k .main) t i result,
-        inr (
-          covers .parts-too (k .main) t i result,
-          inr (record { main = k .main; taking = k .taking; of-main = k .of-main; gives = k .gives; known = idle-in n (k .main) i (k .known); beside = beside i }),
-        ),
-      )
       by-main (no out) = idle-on n t (outside n out (k .known))
+      by-main (yes i) =
+          let counts : t ∈ terms = covers .parts-too (k .main) t i result in
+          inl (
+            counts,
+            inr (
+              counts,
+              inr (taken-again m (Idle n) (Round m (within terms) given n) t k (idle-in n (k .main) i (k .known))
+                  (λ s e. idle-in n s (inside-too terms given covers s (k .main) (inside s e) i) (k .beside s e))),
+            ),
+          )
 
   all-idle : (n : ℕ) (t : Term) → Round m everywhere given n t → Idle n t
   unfolding Idle
   all-idle zero t i = (covers .given-too t i, i)
   all-idle (suc n) t (inl h) = idle-on n t (all-idle n t h)
-  all-idle (suc n) t (inr (a, l)) = ⊎-elim (λ b. idle-built n t b (in? t terms)) (idle-taken n t) (leads-more m (Round m everywhere given n) (Idle n) (all-idle n) t l)
+  all-idle (suc n) t (inr (a, l)) =
+      ⊎-elim (λ b. idle-built n t b (in? t terms)) (idle-taken n t) (leads-more m (Round m everywhere given n) (Idle n) t (all-idle n) l)
 
 pub locality : Locality
-locality m lawful given terms covers s includes n t i = (
-  λ h. idle-in m lawful terms given covers n t i (all-idle m lawful terms given covers n t (rounds-more m s everywhere given given (λ u a. tt) (λ u j. j) n t h)),
-  rounds-more m (within terms) s given given includes (λ u j. j) n t,
-)
+locality m lawful given terms covers s includes n t i = (inward, rounds-more m (within terms) s given given includes (λ u j. j) n t)
+  where
+    inward : Round m s given n t → Round m (within terms) given n t
+    inward h =
+        let anywhere : Round m everywhere given n t = rounds-more m s everywhere given given (λ u a. tt) (λ u j. j) n t h in
+        idle-in m lawful terms given covers n t i (all-idle m lawful terms given covers n t anywhere)

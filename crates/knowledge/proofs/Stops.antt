@@ -24,7 +24,7 @@ module _ (m : Meaning) (terms given : List Term) where
     where
       onward : (j : ℕ) → ((u : Term) → Round m (within terms) given j u → Round m (within terms) given n u) → (t : Term) → Round m (within terms) given (suc j) t → Round m (within terms) given n t
       onward j below t (inl h) = below t h
-      onward j below t (inr (a, l)) = none t a (inr (a, leads-more m (Round m (within terms) given j) (Round m (within terms) given n) below t l))
+      onward j below t (inr (a, l)) = none t a (inr (a, leads-more m (Round m (within terms) given j) (Round m (within terms) given n) t below l))
 
   stops-within : (n k : ℕ) → AddsNone m (within terms) given terms n → n ≤ k → AddsNone m (within terms) given terms k
   stops-within n k none le t i h = round-on m (within terms) given n k le t (settled n (suc k) none (omega arith) t h)

@@ -1,17 +1,15 @@
 -- What can be decided of lists of terms, and the rounds within a list worked out as lists.
-use Prim.Native.Nat.{ℕ, zero, suc}
 use native.Mathlib.Decide.{ℕ-discrete}
 use mathlib.Core.Bool.{true, Bool-discrete}
-use mathlib.Core.List.{List, [], _∷_, _++_}
-use mathlib.Core.Logic.{_⊎_, inl, inr, _↔_}
+use mathlib.Core.List.{List, [], _∷_}
+use mathlib.Core.Logic.{_⊎_, inl, inr}
 use mathlib.Core.Path.{_≡_, refl, sym, subst}
 use Rattle.std.specs.declared.option.Option.{Option}
 use Rattle.std.specs.declared.option.Option.the-variants.{None, Some}
 use Rattle.knowledge.specs.Terms.{Term, term-discrete, parts, _∈_, here, there}
 use Rattle.knowledge.specs.Meanings.{Taking, Meaning}
-use Rattle.knowledge.specs.Rounds.{Built, Taken, Leads, within, Round}
-use Rattle.knowledge.proofs.Lists.{in-left, in-right, in-either, no-side, same-side}
-use Rattle.knowledge.proofs.Steps.{leads-more}
+use Rattle.knowledge.specs.Rounds.{Built, Taken, Leads, within}
+use Rattle.knowledge.proofs.Lists.{no-side, same-side}
 
 abbrev pub same? : (t u : Term) → Dec (t ≡ u)
 same? = term-discrete ℕ-discrete
@@ -31,48 +29,33 @@ either? (no k) (yes b) = yes (inr b)
 either? (no k) (no l) = no (elim [ inl a ↦ k a | inr b ↦ l b ])
 
 -- whether some entry of a list has a property, and whether all have
-abbrev pub any? : {A : Type 0} (P : A → Type 0) → ((x : A) → Dec (P x)) → (xs : List A) → Dec ((x : A) × (x ∈ xs) × P x)
-any? P decide [] = no (λ (x, i, p). elim i [ ])
-any? {A} P decide (y ∷ ys) = by-iff found sought (either? (decide y) (any? P decide ys))
-  where
-    found : P y ⊎ ((x : A) × (x ∈ ys) × P x) → (x : A) × (x ∈ (y ∷ ys)) × P x
-    found (inl p) = (y, here refl, p)
-    found (inr (x, i, p)) = (x, there i, p)
+module _ {A : Type 0} (P : A → Type 0) (decide : (x : A) → Dec (P x)) where
+  abbrev Some-in : List A → Type 0
+  Some-in xs = (x : A) × (x ∈ xs) × P x
 
-    at : (x : A) → x ∈ (y ∷ ys) → P x → P y ⊎ ((x : A) × (x ∈ ys) × P x)
-    at x (here e) p = inl (subst P e p)
-    at x (there i) p = inr (x, i, p)
+  abbrev All-in : List A → Type 0
+  All-in xs = (x : A) → x ∈ xs → P x
 
-    sought : (x : A) × (x ∈ (y ∷ ys)) × P x → P y ⊎ ((x : A) × (x ∈ ys) × P x)
-    sought (x, i, p) = at x i p
+  pub some-there : (y : A) (ys : List A) (x : A) → x ∈ (y ∷ ys) → P x → P y ⊎ Some-in ys
+  some-there y ys x (here e) p = inl (subst P e p)
+  some-there y ys x (there i) p = inr (x, i, p)
 
-abbrev pub all? : {A : Type 0} (P : A → Type 0) → ((x : A) → Dec (P x)) → (xs : List A) → Dec ((x : A) → x ∈ xs → P x)
-all? P decide [] = yes (λ x i. elim i [ ])
-all? {A} P decide (y ∷ ys) = by-iff (λ both x i. at (both .0) (both .1) x i) (λ all. (all y (here refl), λ x i. all x (there i))) (both? (decide y) (all? P decide ys))
-  where
-    at : P y → ((x : A) → x ∈ ys → P x) → (x : A) → x ∈ (y ∷ ys) → P x
-    at p rest x (here e) = subst P (sym e) p
-    at p rest x (there i) = rest x i
+  pub all-there : (y : A) (ys : List A) → P y × All-in ys → All-in (y ∷ ys)
+  all-there y ys (p, rest) x (here e) = subst P (sym e) p
+  all-there y ys (p, rest) x (there i) = rest x i
 
--- whether an entry stands in a list, and whether all of one list stand in another
-abbrev pub in-list? : {A : Type 0} → ((x y : A) → Dec (x ≡ y)) → (x : A) (xs : List A) → Dec (x ∈ xs)
-in-list? equal? x [] = no (λ i. elim i [ ])
-in-list? equal? x (y ∷ ys) = by-iff (elim [ inl e ↦ here e | inr i ↦ there i ]) (elim [ here e ↦ inl e | there i ↦ inr i ]) (either? (equal? x y) (in-list? equal? x ys))
+  abbrev pub any? : (xs : List A) → Dec (Some-in xs)
+  any? [] = no (λ (x, i, p). elim i [ ])
+  any? (y ∷ ys) = by-iff (elim [ inl p ↦ (y, here refl, p) | inr s ↦ (s .0, there (s .1), s .2) ]) (λ (x, i, p). some-there y ys x i p) (either? (decide y) (any? ys))
 
-abbrev pub all-in? : {A : Type 0} → ((x y : A) → Dec (x ≡ y)) → (xs ys : List A) → Dec ((x : A) → x ∈ xs → x ∈ ys)
-all-in? equal? xs ys = all? (λ x. x ∈ ys) (λ x. in-list? equal? x ys) xs
+  abbrev pub all? : (xs : List A) → Dec (All-in xs)
+  all? [] = yes (λ x i. elim i [ ])
+  all? (y ∷ ys) = by-iff (all-there y ys) (λ all. (all y (here refl), λ x i. all x (there i))) (both? (decide y) (all? ys))
 
+-- whether a term stands in a list
 abbrev pub in? : (t : Term) (ts : List Term) → Dec (t ∈ ts)
-in? = in-list? same?
-
--- what is decided with yes holds
-abbrev pub Sure : {A : Type 0} → Dec A → Type 0
-Sure (yes a) = Unit {0}
-Sure (no k) = ⊥
-
-pub sure : {A : Type 0} (d : Dec A) → Sure d → A
-sure (yes a) s = a
-sure (no k) s = absurd s
+in? t [] = no (λ i. elim i [ ])
+in? t (u ∷ us) = by-iff (elim [ inl e ↦ here e | inr i ↦ there i ]) (elim [ here e ↦ inl e | there i ↦ inr i ]) (either? (same? t u) (in? t us))
 
 -- whether a side, if there is one, is known
 abbrev pub side? : (side : Option Term) (known : List Term) → Dec ((s : Term) → side ≡ Some s → s ∈ known)
@@ -80,76 +63,58 @@ side? None known = yes (λ s e. absurd (no-side e))
 side? (Some u) known = by-iff (λ i s e. subst (λ x. x ∈ known) (same-side e) i) (λ all. all u refl) (in? u known)
 
 -- whether one step leads from the terms of a list to a term
-abbrev pub leads? : (m : Meaning) (known : List Term) (t : Term) → Dec (Leads m (λ u. u ∈ known) t)
-leads? m known t = either? built? taken?
-  where
-    built? : Dec (Built m (λ u. u ∈ known) t)
-    built? = by-iff (λ b. record { can = b .0; known = b .1 }) (λ b. (b .can, b .known)) (both? (Bool-discrete (m .builds t) true) (all? (λ p. p ∈ known) (λ p. in? p known) (parts t)))
+module _ (m : Meaning) (known : List Term) (t : Term) where
+  abbrev In : Term → Type 0
+  In u = u ∈ known
 
-    Gives : Taking → Type 0
-    Gives k = (k .result ≡ t) × ((s : Term) → k .side ≡ Some s → s ∈ known)
+  abbrev Gives : Taking → Type 0
+  Gives k = (k .result ≡ t) × ((s : Term) → k .side ≡ Some s → In s)
 
-    gives? : (k : Taking) → Dec (Gives k)
-    gives? k = both? (same? (k .result) t) (side? (k .side) known)
+  abbrev Given-by : Term → Type 0
+  Given-by main = (k : Taking) × (k ∈ m .takings main) × Gives k
 
-    taken? : Dec (Taken m (λ u. u ∈ known) t)
-    taken? = by-iff (λ (main, i, (k, j, (e, s))). record { main = main; taking = k; of-main = j; gives = e; known = i; beside = s })
-        (λ k. (k .main, k .known, (k .taking, k .of-main, (k .gives, k .beside))))
-        (any? (λ main. (k : Taking) × (k ∈ m .takings main) × Gives k) (λ main. any? Gives gives? (m .takings main)) known)
+  abbrev gives? : (main : Term) → Dec (Given-by main)
+  gives? main = any? Gives (λ k. both? (same? (k .result) t) (side? (k .side) known)) (m .takings main)
+
+  abbrev pub built? : Dec (Built m In t)
+  built? = by-iff (λ b. record { can = b .0; known = b .1 }) (λ b. (b .can, b .known))
+      (both? (Bool-discrete (m .builds t) true) (all? In (λ p. in? p known) (parts t)))
+
+  abbrev pub taken? : Dec (Taken m In t)
+  taken? = by-iff (λ (main, i, (k, j, (e, s))). record { main = main; taking = k; of-main = j; gives = e; known = i; beside = s })
+      (λ k. (k .main, k .known, (k .taking, k .of-main, (k .gives, k .beside)))) (any? Given-by gives? known)
+
+  abbrev pub leads? : Dec (Leads m In t)
+  leads? = either? built? taken?
 
 -- the entries of a list that have a property
 abbrev pub keep : {A : Type 0} → Dec A → Term → List Term → List Term
 keep (yes a) t ts = t ∷ ts
 keep (no k) t ts = ts
 
-abbrev pub kept : (P : Term → Type 0) → ((t : Term) → Dec (P t)) → List Term → List Term
-kept P decide [] = []
-kept P decide (t ∷ ts) = keep (decide t) t (kept P decide ts)
+module _ (P : Term → Type 0) (decide : (t : Term) → Dec (P t)) where
+  abbrev pub kept : List Term → List Term
+  kept [] = []
+  kept (t ∷ ts) = keep (decide t) t (kept ts)
 
-pub kept-from : (P : Term → Type 0) (decide : (t : Term) → Dec (P t)) (ts : List Term) (t : Term) → t ∈ kept P decide ts → (t ∈ ts) × P t
-kept-from P decide [] t i = elim i [ ]
-kept-from P decide (u ∷ us) t i = pick (decide u) i (kept-from P decide us t)
-  where
-    pick : (d : Dec (P u)) → t ∈ keep d u (kept P decide us) → (t ∈ kept P decide us → (t ∈ us) × P t) → (t ∈ (u ∷ us)) × P t
-    pick (yes p) (here e) below = (here e, subst P (sym e) p)
-    pick (yes p) (there i) below = (there (below i .0), below i .1)
-    pick (no k) i below = (there (below i .0), below i .1)
+  pub kept-from : (ts : List Term) (t : Term) → t ∈ kept ts → (t ∈ ts) × P t
+  kept-from [] t i = elim i [ ]
+  kept-from (u ∷ us) t i = pick (decide u) i (kept-from us t)
+    where
+      pick : (d : Dec (P u)) → t ∈ keep d u (kept us) → (t ∈ kept us → (t ∈ us) × P t) → (t ∈ (u ∷ us)) × P t
+      pick (yes p) (here e) below = (here e, subst P (sym e) p)
+      pick (yes p) (there i) below = (there (below i .0), below i .1)
+      pick (no k) i below = (there (below i .0), below i .1)
 
-pub kept-into : (P : Term → Type 0) (decide : (t : Term) → Dec (P t)) (ts : List Term) (t : Term) → t ∈ ts → P t → t ∈ kept P decide ts
-kept-into P decide [] t i p = elim i [ ]
-kept-into P decide (u ∷ us) t (here e) p = first (decide u)
-  where
-    first : (d : Dec (P u)) → t ∈ keep d u (kept P decide us)
-    first (yes q) = here e
-    first (no k) = absurd (k (subst P e p))
-kept-into P decide (u ∷ us) t (there i) p = behind (decide u) (kept-into P decide us t i p)
-  where
-    behind : (d : Dec (P u)) → t ∈ kept P decide us → t ∈ keep d u (kept P decide us)
-    behind (yes q) j = there j
-    behind (no k) j = j
+  keep-first : (t u : Term) (us : List Term) (d : Dec (P u)) → t ≡ u → P t → t ∈ keep d u us
+  keep-first t u us (yes q) e p = here e
+  keep-first t u us (no k) e p = absurd (k (subst P e p))
 
--- the rounds within a list of terms, as lists
-abbrev pub held : Meaning → List Term → List Term → ℕ → List Term
-held m terms given zero = given
-held m terms given (suc n) = held m terms given n ++ kept (Leads m (λ u. u ∈ held m terms given n)) (leads? m (held m terms given n)) terms
+  keep-rest : (t u : Term) (us : List Term) (d : Dec (P u)) → t ∈ us → t ∈ keep d u us
+  keep-rest t u us (yes q) i = there i
+  keep-rest t u us (no k) i = i
 
-pub held-is : (m : Meaning) (terms given : List Term) (n : ℕ) (t : Term) → t ∈ held m terms given n ↔ Round m (within terms) given n t
-held-is m terms given zero t = (λ i. i, λ i. i)
-held-is m terms given (suc n) t = (λ i. onto (λ u. held-is m terms given n u .0) (in-either before after i), back (λ u. held-is m terms given n u .1))
-  where
-    before : List Term
-    before = held m terms given n
-
-    InBefore : Term → Type 0
-    InBefore u = u ∈ before
-
-    after : List Term
-    after = kept (Leads m InBefore) (leads? m before) terms
-
-    onto : ((u : Term) → u ∈ before → Round m (within terms) given n u) → (t ∈ before) ⊎ (t ∈ after) → Round m (within terms) given (suc n) t
-    onto below (inl i) = inl (below t i)
-    onto below (inr i) = let (a, l) = kept-from (Leads m InBefore) (leads? m before) terms t i in inr (a, leads-more m InBefore (Round m (within terms) given n) t below l)
-
-    back : ((u : Term) → Round m (within terms) given n u → u ∈ before) → Round m (within terms) given (suc n) t → t ∈ (before ++ after)
-    back above (inl h) = in-left before after (above t h)
-    back above (inr (a, l)) = in-right before after (kept-into (Leads m InBefore) (leads? m before) terms t a (leads-more m (Round m (within terms) given n) InBefore t above l))
+  pub kept-into : (ts : List Term) (t : Term) → t ∈ ts → P t → t ∈ kept ts
+  kept-into [] t i p = elim i [ ]
+  kept-into (u ∷ us) t (here e) p = keep-first t u (kept us) (decide u) e p
+  kept-into (u ∷ us) t (there i) p = keep-rest t u (kept us) (decide u) (kept-into us t i p)

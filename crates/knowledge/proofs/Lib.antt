@@ -2,8 +2,10 @@ pub mod Lists
 pub mod Steps
 pub mod RunsAndRounds
 pub mod Decided
+pub mod Worked
 pub mod Local
 pub mod Stops
+pub mod Few
 pub mod Counts
 pub mod Laws
 pub mod Verdicts

@@ -13,9 +13,10 @@ use Rattle.knowledge.specs.Runs.{Reachable}
 use Rattle.knowledge.specs.Theorems.{Covers}
 use Rattle.knowledge.proofs.Lists.{in-left, in-right, in-either}
 use Rattle.knowledge.proofs.RunsAndRounds.{runs-are-rounds}
-use Rattle.knowledge.proofs.Decided.{in?, held, held-is}
+use Rattle.knowledge.proofs.Decided.{in?}
+use Rattle.knowledge.proofs.Worked.{held, held-is}
 use Rattle.knowledge.proofs.Local.{locality}
-use Rattle.knowledge.proofs.Stops.{few-within, least-too}
+use Rattle.knowledge.proofs.Few.{few-within, least-too}
 
 -- a term and all that is inside it
 abbrev pub whole : Term → List Term

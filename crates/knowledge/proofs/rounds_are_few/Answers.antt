@@ -1,5 +1,5 @@
 use Rattle.knowledge.proofs.Counts.{different-counts}
-use Rattle.knowledge.proofs.Stops.{rounds-are-few}
+use Rattle.knowledge.proofs.Few.{rounds-are-few}
 use Rattle.knowledge.proofs.rounds_are_few.Needs as need
 
 pub returns : need.returns

@@ -1,15 +1,15 @@
 -- The table of kinds, read off the definitions.
 use Prim.Native.Nat.{ℕ}
-use mathlib.Core.Bool.{Bool, true, false, _||_, false≢true}
+use mathlib.Core.Bool.{Bool, true, false, cond, _||_, false≢true}
 use mathlib.Core.List.{List, [], _∷_, map}
 use mathlib.Core.Logic.{_↔_}
 use mathlib.Core.Path.{_≡_, refl, sym, ap, subst}
 use borrow.Author.Tests.{eqb-true, eq-eqb, ne-eqb}
 use Rattle.knowledge.specs.Terms.{Term, atom, one, two, _∈_, here, there}
-use Rattle.knowledge.specs.Kinds.{Kind, pair, hash, cipher, publicKey, sealed, signature, checkValue, reply, number, term₁, is, oneOf, opened}
+use Rattle.knowledge.specs.Kinds.{Kind, pair, hash, cipher, publicKey, sealed, signature, checkValue, reply, number, term₁, is, oneOf, opened, publicKeys, replies}
 use Rattle.knowledge.specs.Table.{Line, Table}
 use Rattle.knowledge.proofs.Lists.{in-left}
-use Rattle.knowledge.proofs.Laws.{either, untested}
+use Rattle.knowledge.proofs.Laws.{untested}
 
 -- a number is a listed kind's exactly if it stands among the kinds' numbers
 listed : (ks : List Kind) (n : ℕ) → oneOf ks n ≡ true → n ∈ map number ks
@@ -42,12 +42,18 @@ unopened body (atom label) other = refl
 unopened body (one n secret) other = untested (is publicKey n) _ [] (ne-eqb n 4 (λ e. other secret (ap (λ k. one k secret) e))) refl
 unopened body (two n left right) other = refl
 
-module _ (n : ℕ) (left : Term) (out : ¬ (n ∈ (2 ∷ 4 ∷ []))) where
-  other₁ : Line (one n left) false []
-  other₁ = record {
-    can = either (λ b. b ≡ false) (oneOf (reply ∷ []) n) false _ refl (either (λ b. b ≡ false) (oneOf (publicKey ∷ sealed ∷ signature ∷ []) n) _ _ (unlisted (publicKey ∷ []) n (λ i. out (there i))) (unlisted (hash ∷ []) n (λ i. out (in-left (2 ∷ []) (4 ∷ []) i))));
-    takings-are = either (λ ks. ks ≡ []) (oneOf (reply ∷ []) n) [] _ refl (either (λ ks. ks ≡ []) (oneOf (publicKey ∷ sealed ∷ signature ∷ []) n) [] [] refl refl);
-  }
+-- the pile takes one of three answers; where all are no, so is it
+three-off : {A : Type 0} (a b : Bool) (x y z o : A) → x ≡ o → y ≡ o → z ≡ o → cond a x (cond b y z) ≡ o
+three-off true b x y z o ex ey ez = ex
+three-off false true x y z o ex ey ez = ey
+three-off false false x y z o ex ey ez = ez
+
+other₁ : (n : ℕ) (left : Term) → ¬ (n ∈ (2 ∷ 4 ∷ [])) → Line (one n left) false []
+other₁ n left out = record {
+  can = three-off (replies .owns n) (publicKeys .owns n) _ _ _ false refl (unlisted (publicKey ∷ []) n (λ i. out (there i)))
+      (unlisted (hash ∷ []) n (λ i. out (in-left (2 ∷ []) (4 ∷ []) i)));
+  takings-are = three-off (replies .owns n) (publicKeys .owns n) _ _ _ [] refl refl refl;
+}
 
 module _ (n : ℕ) (left right : Term) (out : ¬ (n ∈ (1 ∷ 3 ∷ 5 ∷ 6 ∷ 7 ∷ 8 ∷ []))) where
   off : (k : Kind) → number k ∈ (1 ∷ 3 ∷ 5 ∷ 6 ∷ 7 ∷ 8 ∷ []) → is k n ≡ false
@@ -62,8 +68,8 @@ module _ (n : ℕ) (left right : Term) (out : ¬ (n ∈ (1 ∷ 3 ∷ 5 ∷ 6 ∷
       let no-check : is checkValue n ≡ false = off checkValue (there (there (there (there (here refl))))) in
       let no-reply : is reply n ≡ false = off reply (there (there (there (there (there (here refl)))))) in
       record {
-        can = simp (no-reply, no-pair, no-cipher, no-check, no-sealed, no-signature) (either (λ b. b ≡ false) (is publicKey n || false) false false refl refl);
-        takings-are = simp (no-reply, no-pair, no-cipher, no-sealed, no-signature) (either (λ ks. ks ≡ []) (is publicKey n || false) [] [] refl refl);
+        can = three-off (replies .owns n) (publicKeys .owns n) _ _ _ false refl (simp (no-sealed, no-signature)) (simp (no-pair, no-cipher, no-check));
+        takings-are = three-off (replies .owns n) (publicKeys .owns n) _ _ _ [] (simp no-reply) (simp no-sealed) (simp (no-pair, no-cipher));
       }
 
 pub table : Table

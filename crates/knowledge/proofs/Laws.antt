@@ -14,6 +14,26 @@ use Rattle.knowledge.specs.Kinds.{Kind, pair, hash, cipher, publicKey, sealed,
 use Rattle.knowledge.specs.Theorems.{LawfulTheories, Piled}
 use Rattle.knowledge.proofs.Lists.{no-side, same-side}
 
+-- a test picks what it says
+on : {A : Type 0} (b : Bool) (x y : A) → b ≡ true → cond b x y ≡ x
+on true x y e = refl
+on false x y e = absurd (true≢false (sym e))
+
+off : {A : Type 0} (b : Bool) (x y : A) → b ≡ false → cond b x y ≡ y
+off true x y e = absurd (true≢false e)
+off false x y e = refl
+
+one-on : (a b : Bool) → (a || b) ≡ true ↔ ((a ≡ true) ⊎ (b ≡ true))
+one-on true b = (λ e. inl refl, λ e. refl)
+one-on false b = (inr, elim [ inl e ↦ absurd (true≢false (sym e)) | inr e ↦ e ])
+
+pub piled : (upper lower : Meaning) → Piled upper lower
+piled upper lower = record {
+  on-owned = λ t e. record { same-builds = on (upper .owns (kind t)) _ _ e; same-takings = on (upper .owns (kind t)) _ _ e };
+  on-others = λ t e. record { same-builds = off (upper .owns (kind t)) _ _ e; same-takings = off (upper .owns (kind t)) _ _ e };
+  owns-both = λ k. one-on (upper .owns k) (lower .owns k);
+}
+
 -- what the laws ask of a term's takings: at most two, each with a part for its result and a side from inside
 abbrev SideInside : Option Term → Term → Type 0
 SideInside None t = Unit {0}
@@ -49,7 +69,7 @@ each-side t (x ∷ xs) k s (first, rest) (here f) e = side-inside (x .side) t s 
 each-side t (x ∷ xs) k s (first, rest) (there i) e = each-side t xs k s rest i e
 
 -- what holds of either of two holds of the one that a test picks
-pub either : {A : Type 0} (P : A → Type 0) (b : Bool) (x y : A) → P x → P y → P (cond b x y)
+either : {A : Type 0} (P : A → Type 0) (b : Bool) (x y : A) → P x → P y → P (cond b x y)
 either P true x y h l = h
 either P false x y h l = l
 
@@ -63,7 +83,7 @@ not-listed [] n k e i = elim i [ ]
 not-listed (x ∷ xs) n k e (here f) = subst (λ y. is y n ≡ false) (sym f) (both-off (is x n) (oneOf xs n) e .0)
 not-listed (x ∷ xs) n k e (there i) = not-listed xs n k (both-off (is x n) (oneOf xs n) e .1) i
 
-pub none-listed : (ks : List Kind) (n : ℕ) → ((k : Kind) → k ∈ ks → is k n ≡ false) → oneOf ks n ≡ false
+none-listed : (ks : List Kind) (n : ℕ) → ((k : Kind) → k ∈ ks → is k n ≡ false) → oneOf ks n ≡ false
 none-listed [] n none = refl
 none-listed (x ∷ xs) n none = let e = none x (here refl) in let f = none-listed xs n (λ k i. none k (there i)) in rw (e, f)
 
@@ -102,46 +122,40 @@ module _ (owned ones twos : List Kind) (from : ℕ → Term → Term → List Ta
       untaken (one n left) e = refl
       untaken (two n left right) e = none n left right (λ k i. not-listed owned n k e i)
 
-pile-no-step : (upper lower : Meaning) (t : Term) → NoStep upper t → NoStep lower t → NoStep (pile upper lower) t
-pile-no-step upper lower t u l = record {
-  unbuilt = either (λ b. b ≡ false) (upper .owns (kind t)) (upper .builds t) (lower .builds t) (u .unbuilt) (l .unbuilt);
-  untaken = either (λ ks. ks ≡ []) (upper .owns (kind t)) (upper .takings t) (lower .takings t) (u .untaken) (l .untaken);
-}
+-- on a term, a pile has the steps of one of its two theories
+module _ (upper lower : Meaning) (t : Term) where
+  pick : {A : Type 0} (P : A → Type 0) (x y : A) → P x → P y → P (cond (upper .owns (kind t)) x y)
+  pick P x y = either P (upper .owns (kind t)) x y
 
--- a test picks what it says
-on : {A : Type 0} (b : Bool) (x y : A) → b ≡ true → cond b x y ≡ x
-on true x y e = refl
-on false x y e = absurd (true≢false (sym e))
+  pile-no-step : NoStep upper t → NoStep lower t → NoStep (pile upper lower) t
+  pile-no-step u l = record {
+    unbuilt = pick (λ b. b ≡ false) _ _ (u .unbuilt) (l .unbuilt);
+    untaken = pick (λ ks. ks ≡ []) _ _ (u .untaken) (l .untaken);
+  }
 
-off : {A : Type 0} (b : Bool) (x y : A) → b ≡ false → cond b x y ≡ y
-off true x y e = absurd (true≢false e)
-off false x y e = refl
+  abbrev Results : List Taking → Type 0
+  Results ks = (k : Taking) → k ∈ ks → k .result ∈ parts t
 
-one-on : (a b : Bool) → (a || b) ≡ true ↔ ((a ≡ true) ⊎ (b ≡ true))
-one-on true b = (λ e. inl refl, λ e. refl)
-one-on false b = (inr, elim [ inl e ↦ absurd (true≢false (sym e)) | inr e ↦ e ])
-
-pub piled : (upper lower : Meaning) → Piled upper lower
-piled upper lower = record {
-  on-owned = λ t e. record { same-builds = on (upper .owns (kind t)) _ _ e; same-takings = on (upper .owns (kind t)) _ _ e };
-  on-others = λ t e. record { same-builds = off (upper .owns (kind t)) _ _ e; same-takings = off (upper .owns (kind t)) _ _ e };
-  owns-both = λ k. one-on (upper .owns k) (lower .owns k);
-}
+  abbrev Sides : List Taking → Type 0
+  Sides ks = (k : Taking) (s : Term) → k ∈ ks → k .side ≡ Some s → Inside s t
 
 pub pile-lawful : (upper lower : Meaning) → Lawful upper → Lawful lower → Lawful (pile upper lower)
 pile-lawful upper lower u l = record {
-  few = λ t. either (λ ks. length ks ≤ 2) (upper .owns (kind t)) (upper .takings t) (lower .takings t) (u .few t) (l .few t);
+  few = λ t. pick upper lower t (λ ks. length ks ≤ 2) _ _ (u .few t) (l .few t);
   atoms = λ label. pile-no-step upper lower (atom label) (u .atoms label) (l .atoms label);
-  results = λ t. either (λ ks. (k : Taking) → k ∈ ks → k .result ∈ parts t) (upper .owns (kind t)) (upper .takings t) (lower .takings t) (u .results t) (l .results t);
-  sides = λ t. either (λ ks. (k : Taking) (s : Term) → k ∈ ks → k .side ≡ Some s → Inside s t) (upper .owns (kind t)) (upper .takings t) (lower .takings t) (u .sides t) (l .sides t);
-  foreign = λ t e. let (f, h) = both-off (upper .owns (kind t)) (lower .owns (kind t)) e in pile-no-step upper lower t (u .foreign t f) (l .foreign t h);
+  results = λ t. pick upper lower t (Results upper lower t) _ _ (u .results t) (l .results t);
+  sides = λ t. pick upper lower t (Sides upper lower t) _ _ (u .sides t) (l .sides t);
+  foreign = λ t e.
+      let (f, h) = both-off (upper .owns (kind t)) (lower .owns (kind t)) e in
+      pile-no-step upper lower t (u .foreign t f) (l .foreign t h);
 }
 
-plain-lawful : Lawful plain
+pub plain-lawful : Lawful plain
 plain-lawful = by-kinds (pair ∷ hash ∷ cipher ∷ checkValue ∷ []) (hash ∷ []) (pair ∷ cipher ∷ checkValue ∷ []) _
     (λ k. elim [ here e ↦ there (here e) | there i ↦ elim i [ ] ]) (λ k. elim [ here e ↦ here e | there i ↦ there (there i) ])
-    (λ n left right. either (Kept (two n left right)) (is pair n) _ _ (omega arith, search inside) (either (Kept (two n left right)) (is cipher n) _ _ (omega arith, search inside) (omega arith, tt)))
-    (λ n left right off. untested (is pair n) _ _ (off pair (here refl)) (untested (is cipher n) _ _ (off cipher (there (there (here refl)))) refl))
+    (λ n left right. either (Kept (two n left right)) (is pair n) _ _ (omega arith, search inside)
+    (either (Kept (two n left right)) (is cipher n) _ _ (omega arith, search inside) (omega arith, tt)))
+    (λ n left right free. untested (is pair n) _ _ (free pair (here refl)) (untested (is cipher n) _ _ (free cipher (there (there (here refl)))) refl))
 
 -- a sealed term's taking, whatever its key
 opened-kept : (n : ℕ) (body key : Term) → Kept (two n body key) (opened body key)
@@ -149,19 +163,24 @@ opened-kept n body (atom label) = (omega arith, tt)
 opened-kept n body (one l secret) = either (Kept (two n body (one l secret))) (is publicKey l) _ _ (omega arith, search inside) (omega arith, tt)
 opened-kept n body (two l left right) = (omega arith, tt)
 
-public-key-lawful : Lawful publicKeys
+pub public-key-lawful : Lawful publicKeys
 public-key-lawful = by-kinds (publicKey ∷ sealed ∷ signature ∷ []) (publicKey ∷ []) (sealed ∷ signature ∷ []) _
     (λ k. elim [ here e ↦ here e | there i ↦ elim i [ ] ]) (λ k i. there i)
     (λ n body key. either (Kept (two n body key)) (is sealed n) _ _ (opened-kept n body key) (omega arith, tt))
-    (λ n body key off. untested (is sealed n) _ _ (off sealed (there (here refl))) refl)
+    (λ n body key free. untested (is sealed n) _ _ (free sealed (there (here refl))) refl)
 
-reply-lawful : Lawful replies
+pub reply-lawful : Lawful replies
 reply-lawful = by-kinds (reply ∷ []) [] [] _ (λ k i. elim i [ ]) (λ k i. elim i [ ])
     (λ n asked answered. either (Kept (two n asked answered)) (is reply n) _ _ (omega arith, search inside) (omega arith, tt))
-    (λ n asked answered off. untested (is reply n) _ _ (off reply (here refl)) refl)
+    (λ n asked answered free. untested (is reply n) _ _ (free reply (here refl)) refl)
 
 pub lawful-theories : LawfulTheories
-lawful-theories = record { plain-keeps = plain-lawful; public-key-keeps = public-key-lawful; reply-keeps = reply-lawful; pile-keeps = pile-lawful }
+lawful-theories = record {
+  plain-keeps = plain-lawful;
+  public-key-keeps = public-key-lawful;
+  reply-keeps = reply-lawful;
+  pile-keeps = pile-lawful;
+}
 
 pub standard-lawful : Lawful standard
 standard-lawful = pile-lawful replies (pile publicKeys plain) reply-lawful (pile-lawful publicKeys plain public-key-lawful plain-lawful)

@@ -16,11 +16,11 @@ Granted given goal n = SmallestRound standard everywhere given goal n
 
 -- a body, which stands nowhere else in its case
 abbrev pub body : Term
-body = atom 1
+body = atom 7
 
 -- another atom, for a key, a secret or what is asked
 abbrev pub secret : Term
-secret = atom 2
+secret = atom 8
 
 -- what is denied, and what is granted in which round
 pub record Examples : Type 0 where

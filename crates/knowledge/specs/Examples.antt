@@ -24,16 +24,16 @@ secret = atom 8
 
 -- what is denied, and what is granted in which round
 pub record Examples : Type 0 where
-  -- a cipher alone keeps its body; with its key it gives it, and a key may be built
+  -- a cipher alone keeps its body; with its key it gives it, and the key may be built
   pub cipher-alone : Denied (term₂ cipher body secret ∷ []) body
   pub cipher-and-key : Granted (term₂ cipher body secret ∷ secret ∷ []) body 1
   pub cipher-and-hashed : Granted (term₂ cipher body (term₁ hash secret) ∷ secret ∷ []) body 2
-  -- a public key does not open what is sealed under it, and no key opens what is sealed under an atom
+  -- a public key does not open what is sealed under it, nor does an atom
   pub sealed-and-public-key : Denied (term₂ sealed body (term₁ publicKey secret) ∷ term₁ publicKey secret ∷ []) body
   pub sealed-under-atom : Denied (term₂ sealed body secret ∷ secret ∷ []) body
   -- a signature hides its body
   pub signature-alone : Denied (term₂ signature body secret ∷ []) body
-  -- a reply answers only who can ask
+  -- a reply answers only whoever can ask
   pub reply-alone : Denied (term₂ reply secret body ∷ []) body
   -- a sealed term, sent to a unit that answers it with the secret, opens in the second round
   pub sealed-alone : Denied (term₂ sealed body (term₁ publicKey secret) ∷ []) body

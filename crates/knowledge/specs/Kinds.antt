@@ -55,11 +55,11 @@ takes from (two n left right) = from n left right
 abbrev pub freely : Term → Taking
 freely result = record { side = None; result = result }
 
--- a taking for who knows the side
+-- a taking for whoever knows the side
 abbrev pub knowing : Term → Term → Taking
 knowing side result = record { side = Some side; result = result }
 
--- the plain theory: a pair gives its parts, and a cipher its body to who knows the key
+-- the plain theory: a pair gives its parts, and a cipher its body to whoever knows the key
 abbrev pub plain : Meaning
 plain = record {
   owns = oneOf (pair ∷ hash ∷ cipher ∷ checkValue ∷ []);
@@ -67,7 +67,7 @@ plain = record {
   takings = takes (λ n left right. cond (is pair n) (freely left ∷ freely right ∷ []) (cond (is cipher n) (knowing right left ∷ []) []));
 }
 
--- under a public key a sealed body goes to who knows that key's secret; under any other key, to nobody
+-- a body sealed under a public key goes to whoever knows that key's secret; under any other key, to nobody
 abbrev pub opened : Term → Term → List Taking
 opened body (atom label) = []
 opened body (one n secret) = cond (is publicKey n) (knowing secret body ∷ []) []

@@ -71,7 +71,7 @@ pub record LawfulTheories : Type 0 where
   pub reply-keeps : Lawful replies
   pub pile-keeps : (upper lower : Meaning) → Lawful upper → Lawful lower → Lawful (pile upper lower)
 
--- of a term, two theories have the same steps
+-- two theories have the same steps for a term
 pub record SameSteps (m l : Meaning) (t : Term) : Type 0 where
   pub same-builds : m .builds t ≡ l .builds t
   pub same-takings : m .takings t ≡ l .takings t
@@ -82,7 +82,7 @@ pub record Piled (upper lower : Meaning) : Type 0 where
   pub on-others : (t : Term) → upper .owns (kind t) ≡ false → SameSteps (pile upper lower) lower t
   pub owns-both : (k : ℕ) → pile upper lower .owns k ≡ true ↔ ((upper .owns k ≡ true) ⊎ (lower .owns k ≡ true))
 
--- that holds of every pile
+-- this holds of every pile
 abbrev pub PilesHold : Type 0
 PilesHold = (upper lower : Meaning) → Piled upper lower
 

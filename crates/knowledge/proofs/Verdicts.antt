@@ -104,10 +104,9 @@ module _ (m : Meaning) (lawful : Lawful m) (given : List Term) (goal : Term) whe
 
   -- rounds beyond the number of terms need not be looked at
   small : (n : ℕ) → Least Holds n → n < length terms
-  small n least = few-within m lawful terms given terms covers (λ t i. i) goal n (least-too Holds (λ j. Round m (within terms) given j goal) (held-of goal) n least)
-    where
-      held-of : (t : Term) (j : ℕ) → t ∈ held m terms given j ↔ Round m (within terms) given j t
-      held-of t j = held-is m terms given j t
+  small n least =
+      let within-terms = least-too Holds (λ j. Round m (within terms) given j goal) (λ j. held-is m terms given j goal) n least in
+      few-within m lawful terms given terms covers (λ t i. i) goal n within-terms
 
   pub never : ((n : ℕ) → n < length terms → ¬ (Holds n)) → ¬ (Reachable m given goal)
   never none reach = let (k, h) = runs-are-rounds m given goal .0 reach in at k (same-rounds k .1 h) (first Holds holds? (suc k))

@@ -4,7 +4,7 @@ use native.Mathlib.Omega.{arith}
 use mathlib.Core.Bool.{Bool, true, false, cond, _||_, true≢false}
 use mathlib.Core.List.{List, [], _∷_}
 use mathlib.Core.Logic.{_⊎_, inl, inr, _↔_}
-use mathlib.Core.Path.{_≡_, refl, sym, subst}
+use mathlib.Core.Path.{_≡_, refl, sym, _∙_, subst}
 use lib.ListN.{length}
 use Rattle.std.specs.declared.option.Option.{Option}
 use Rattle.std.specs.declared.option.Option.the-variants.{None, Some}
@@ -19,7 +19,7 @@ on : {A : Type 0} (b : Bool) (x y : A) → b ≡ true → cond b x y ≡ x
 on true x y e = refl
 on false x y e = absurd (true≢false (sym e))
 
-off : {A : Type 0} (b : Bool) (x y : A) → b ≡ false → cond b x y ≡ y
+pub off : {A : Type 0} (b : Bool) (x y : A) → b ≡ false → cond b x y ≡ y
 off true x y e = absurd (true≢false e)
 off false x y e = refl
 
@@ -87,10 +87,6 @@ none-listed : (ks : List Kind) (n : ℕ) → ((k : Kind) → k ∈ ks → is k n
 none-listed [] n none = refl
 none-listed (x ∷ xs) n none = let e = none x (here refl) in let f = none-listed xs n (λ k i. none k (there i)) in rw (e, f)
 
-pub untested : (b : Bool) (xs ys : List Taking) → b ≡ false → ys ≡ [] → cond b xs ys ≡ []
-untested true xs ys e f = absurd (true≢false e)
-untested false xs ys e f = f
-
 -- a theory by kinds keeps the laws if it owns what it builds, and its takings keep them
 module _ (owned ones twos : List Kind) (from : ℕ → Term → Term → List Taking) where
   abbrev theory : Meaning
@@ -155,7 +151,7 @@ plain-lawful = by-kinds (pair ∷ hash ∷ cipher ∷ checkValue ∷ []) (hash �
     (λ k. elim [ here e ↦ there (here e) | there i ↦ elim i [ ] ]) (λ k. elim [ here e ↦ here e | there i ↦ there (there i) ])
     (λ n left right. either (Kept (two n left right)) (is pair n) _ _ (omega arith, search inside)
     (either (Kept (two n left right)) (is cipher n) _ _ (omega arith, search inside) (omega arith, tt)))
-    (λ n left right free. untested (is pair n) _ _ (free pair (here refl)) (untested (is cipher n) _ _ (free cipher (there (there (here refl)))) refl))
+    (λ n left right free. off (is pair n) _ _ (free pair (here refl)) ∙ off (is cipher n) _ _ (free cipher (there (there (here refl)))))
 
 -- a sealed term's taking, whatever its key
 opened-kept : (n : ℕ) (body key : Term) → Kept (two n body key) (opened body key)
@@ -167,12 +163,12 @@ pub public-key-lawful : Lawful publicKeys
 public-key-lawful = by-kinds (publicKey ∷ sealed ∷ signature ∷ []) (publicKey ∷ []) (sealed ∷ signature ∷ []) _
     (λ k. elim [ here e ↦ here e | there i ↦ elim i [ ] ]) (λ k i. there i)
     (λ n body key. either (Kept (two n body key)) (is sealed n) _ _ (opened-kept n body key) (omega arith, tt))
-    (λ n body key free. untested (is sealed n) _ _ (free sealed (there (here refl))) refl)
+    (λ n body key free. off (is sealed n) _ _ (free sealed (there (here refl))))
 
 pub reply-lawful : Lawful replies
 reply-lawful = by-kinds (reply ∷ []) [] [] _ (λ k i. elim i [ ]) (λ k i. elim i [ ])
     (λ n asked answered. either (Kept (two n asked answered)) (is reply n) _ _ (omega arith, search inside) (omega arith, tt))
-    (λ n asked answered free. untested (is reply n) _ _ (free reply (here refl)) refl)
+    (λ n asked answered free. off (is reply n) _ _ (free reply (here refl)))
 
 pub lawful-theories : LawfulTheories
 lawful-theories = record {

@@ -47,9 +47,9 @@ pub cut-none : {A : Type 0} (earlier : List A) (t : A) (later : List A) → [] �
 cut-none [] t later e = nil≢cons e
 cut-none (x ∷ earlier) t later e = nil≢cons e
 
--- a list of one entry is cut in one way
-pub cut-one : {A : Type 0} (x : A) (earlier : List A) (t : A) (later : List A) → x ∷ [] ≡ earlier ++ (t ∷ later) → ([] ≡ earlier) × (x ≡ t)
-cut-one x [] t later e = (refl, head-eq-of-cons-eq e)
+-- a list of one entry is cut at that entry
+pub cut-one : {A : Type 0} (x : A) (earlier : List A) (t : A) (later : List A) → x ∷ [] ≡ earlier ++ (t ∷ later) → x ≡ t
+cut-one x [] t later e = head-eq-of-cons-eq e
 cut-one x (y ∷ earlier) t later e = absurd (cut-none earlier t later (tail-eq-of-cons-eq e))
 
 pub no-side : {A : Type 0} {x : A} → None ≡ Some x → ⊥

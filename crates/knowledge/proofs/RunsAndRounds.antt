@@ -63,9 +63,7 @@ module _ (m : Meaning) (given : List Term) where
   run-last xs t run j = run-on xs (t ∷ []) run next
     where
       next : (front : List Term) (u : Term) (later : List Term) → t ∷ [] ≡ front ++ (u ∷ later) → Justified (xs ++ front) u
-      next front u later e =
-          let (f, h) = cut-one t front u later e in
-          subst (Justified (xs ++ front)) h (later-too xs (xs ++ front) (λ v i. in-left xs front i) t j)
+      next front u later e = subst (Justified (xs ++ front)) (cut-one t front u later e) (later-too xs (xs ++ front) (λ v i. in-left xs front i) t j)
 
   -- every term of a run is in one round
   held-all : (run : List Term) → Run m given run → (earlier later : List Term) → run ≡ earlier ++ later

@@ -9,7 +9,7 @@ use Rattle.knowledge.specs.Terms.{Term, atom, one, two, _∈_, here, there}
 use Rattle.knowledge.specs.Kinds.{Kind, pair, hash, cipher, publicKey, sealed, signature, checkValue, reply, number, term₁, is, oneOf, opened, publicKeys, replies}
 use Rattle.knowledge.specs.Table.{Line, Table}
 use Rattle.knowledge.proofs.Lists.{in-left}
-use Rattle.knowledge.proofs.Laws.{untested}
+use Rattle.knowledge.proofs.Laws.{off}
 
 -- a number is a listed kind's exactly if it stands among the kinds' numbers
 listed : (ks : List Kind) (n : ℕ) → oneOf ks n ≡ true → n ∈ map number ks
@@ -39,7 +39,7 @@ unlisted (k ∷ ks) n out = rw (ne-eqb n (number k) (λ e. out (here e)), unlist
 -- under a key that is no public key nothing is given out
 unopened : (body key : Term) → ((secret : Term) → ¬ (key ≡ term₁ publicKey secret)) → opened body key ≡ []
 unopened body (atom label) other = refl
-unopened body (one n secret) other = untested (is publicKey n) _ [] (ne-eqb n 4 (λ e. other secret (ap (λ k. one k secret) e))) refl
+unopened body (one n secret) other = off (is publicKey n) _ [] (ne-eqb n 4 (λ e. other secret (ap (λ k. one k secret) e)))
 unopened body (two n left right) other = refl
 
 -- the pile takes one of three answers; where all are no, so is it
@@ -56,17 +56,17 @@ other₁ n left out = record {
 }
 
 module _ (n : ℕ) (left right : Term) (out : ¬ (n ∈ (1 ∷ 3 ∷ 5 ∷ 6 ∷ 7 ∷ 8 ∷ []))) where
-  off : (k : Kind) → number k ∈ (1 ∷ 3 ∷ 5 ∷ 6 ∷ 7 ∷ 8 ∷ []) → is k n ≡ false
-  off k i = ne-eqb n (number k) (λ e. out (subst (λ x. x ∈ (1 ∷ 3 ∷ 5 ∷ 6 ∷ 7 ∷ 8 ∷ [])) (sym e) i))
+  apart : (k : Kind) → number k ∈ (1 ∷ 3 ∷ 5 ∷ 6 ∷ 7 ∷ 8 ∷ []) → is k n ≡ false
+  apart k i = ne-eqb n (number k) (λ e. out (subst (λ x. x ∈ (1 ∷ 3 ∷ 5 ∷ 6 ∷ 7 ∷ 8 ∷ [])) (sym e) i))
 
   other₂ : Line (two n left right) false []
   other₂ =
-      let no-pair : is pair n ≡ false = off pair (here refl) in
-      let no-cipher : is cipher n ≡ false = off cipher (there (here refl)) in
-      let no-sealed : is sealed n ≡ false = off sealed (there (there (here refl))) in
-      let no-signature : is signature n ≡ false = off signature (there (there (there (here refl)))) in
-      let no-check : is checkValue n ≡ false = off checkValue (there (there (there (there (here refl))))) in
-      let no-reply : is reply n ≡ false = off reply (there (there (there (there (there (here refl)))))) in
+      let no-pair : is pair n ≡ false = apart pair (here refl) in
+      let no-cipher : is cipher n ≡ false = apart cipher (there (here refl)) in
+      let no-sealed : is sealed n ≡ false = apart sealed (there (there (here refl))) in
+      let no-signature : is signature n ≡ false = apart signature (there (there (there (here refl)))) in
+      let no-check : is checkValue n ≡ false = apart checkValue (there (there (there (there (here refl))))) in
+      let no-reply : is reply n ≡ false = apart reply (there (there (there (there (there (here refl)))))) in
       record {
         can = three-off (replies .owns n) (publicKeys .owns n) _ _ _ false refl (simp (no-sealed, no-signature)) (simp (no-pair, no-cipher, no-check));
         takings-are = three-off (replies .owns n) (publicKeys .owns n) _ _ _ [] (simp no-reply) (simp no-sealed) (simp (no-pair, no-cipher));

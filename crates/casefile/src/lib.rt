@@ -1,4 +1,6 @@
 // The text of case files: what a line says, how it is written, and which fault a text has first.
+#![tactic(auto)]
+
 mod digits;
 pub mod fault;
 mod layout;

@@ -1,4 +1,6 @@
 // Tests of the text layer on telling lines and texts.
+#![tactic(auto)]
+
 #[cfg(test)]
 mod tests {
     use casefile::{LIMIT, Number, Record, TextFault, TooShort, check_text, read_line};

@@ -1,4 +1,6 @@
 //! A case: the terms of a vehicle network, each in a row of its own, and which of them are given.
+#![tactic(auto)]
+
 pub mod case;
 pub mod parts;
 pub mod row;

@@ -1,4 +1,6 @@
 // The program: reads a case file from standard input and prints what it holds, or its first fault.
+#![tactic(auto)]
+
 use anyhow::anyhow;
 use casefile::{LIMIT, check_text};
 use std::io::{Read, Write};

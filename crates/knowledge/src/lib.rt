@@ -2,6 +2,8 @@
 //!
 //! The definitions are in `specs/`, to be read from `Terms` to `Examples`. Each function here does nothing; its contract is a
 //! theorem on them, for every theory that keeps the laws.
+#![tactic(auto)]
+
 ghost use Rattle.knowledge.specs.Examples.{Examples};
 ghost use Rattle.knowledge.specs.Table.{Table};
 ghost use Rattle.knowledge.specs.Theorems.{

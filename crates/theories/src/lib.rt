@@ -1,4 +1,6 @@
 //! Theories: what can be built and taken, asked of the rows of a case.
+#![tactic(auto)]
+
 mod kinds;
 pub mod pile;
 pub mod plain;

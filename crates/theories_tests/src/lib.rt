@@ -1,4 +1,6 @@
 //! Tests of cases and theories: a new case at the edges, part counts, and who owns which kinds.
+#![tactic(auto)]
+
 #[cfg(test)]
 mod tests {
     use cases::{CAPACITY, Case, parts_of};

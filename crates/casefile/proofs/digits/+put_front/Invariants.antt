@@ -1,5 +1,5 @@
 use Rattle.std.proofs.Common.{length}
 use Rattle.casefile.proofs.digits.+put_front.Given as goal
 
-abbrev pub decreases-put-front : goal.decreases-put-front
-decreases-put-front l = length l.out.now
+abbrev pub decreases-put_front : goal.decreases-put_front
+decreases-put_front l = length l.out.now

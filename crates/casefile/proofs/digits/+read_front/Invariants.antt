@@ -1,5 +1,5 @@
 use Rattle.std.proofs.Common.{length}
 use Rattle.casefile.proofs.digits.+read_front.Given as goal
 
-abbrev pub decreases-read-front : goal.decreases-read-front
-decreases-read-front l = length l.text.now
+abbrev pub decreases-read_front : goal.decreases-read_front
+decreases-read_front l = length l.text.now

@@ -15,4 +15,4 @@ pub returns-in-err-row-3 : goal.returns-in-err-row-3
 returns-in-err-row-3 c = refused _ _ (search rules) (search rules) _ _ c.in-err-row-3.ensures c.from-residual-in-err-row-3.ensures.1
 
 pub returns-in-Term : goal.returns-in-Term
-returns-in-Term c = of_line c.args.text.now 84 (search rules) (search rules) c.cut-term.result c.cut-term.ensures
+returns-in-Term c = of_line c.args.text.now 84 (search rules) (search rules) c.cut_term.result c.cut_term.ensures

@@ -11,5 +11,5 @@ returns-then-text-width c = record {
 
 pub returns : goal.returns
 returns c =
-    let told = as_wide c.args.text.now c.args.width (search rules) (search rules) c.read-columns.result c.read-columns.ensures in
+    let told = as_wide c.args.text.now c.args.width (search rules) (search rules) c.read_columns.result c.read_columns.ensures in
     record { digits = told.0; answer = told.1 }

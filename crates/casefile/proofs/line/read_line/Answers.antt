@@ -2,17 +2,17 @@ use Rattle.std.proofs.Common.{rules}
 use Rattle.casefile.proofs.Readings.{is_line, field_fails, read_fails, reads_same}
 use Rattle.casefile.proofs.line.read_line.Goals as goal
 
-pub returns-in-err-line : goal.returns-in-err-line
-returns-in-err-line c =
-    let answer = read_fails _ _ _ c.in-err-line.ensures.0 c.from-residual.ensures.1 in
+pub returns-in_err-line : goal.returns-in_err-line
+returns-in_err-line c =
+    let answer = read_fails _ _ _ c.in_err-line.ensures.0 c.from_residual.ensures.1 in
     record { answer = answer; only = λ q other. reads_same _ _ q answer other }
 
-pub returns-in-err-said : goal.returns-in-err-said
-returns-in-err-said c =
-    let answer = read_fails _ _ _ (field_fails _ _ _ c.in-ok-line.ensures c.in-err-said.ensures) c.from-residual-in-err-said.ensures.1 in
+pub returns-in_err-said : goal.returns-in_err-said
+returns-in_err-said c =
+    let answer = read_fails _ _ _ (field_fails _ _ _ c.in_ok-line.ensures c.in_err-said.ensures) c.from_residual-in_err-said.ensures.1 in
     record { answer = answer; only = λ q other. reads_same _ _ q answer other }
 
 pub returns : goal.returns
 returns c =
-    let whole = is_line _ _ _ c.in-ok-line.ensures c.in-ok-said.ensures in
+    let whole = is_line _ _ _ c.in_ok-line.ensures c.in_ok-said.ensures in
     record { answer = search rules; only = λ q other. reads_same c.args.text.now _ q whole other }

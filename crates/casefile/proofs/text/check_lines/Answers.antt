@@ -15,11 +15,11 @@ loop-rest-preserved c =
     let used = sym (take_rest c.loop-rest.rest.now c.in-Ok.first.1) in
     one_more _ _ _ inv.0 _ _ _ inv.1 inv.2 (c.in-Ok.ensures.1 ∙ ap (λ l. line_of c.in-Ok.first.0 ++ 10 ∷ l) used) c.count.ensures
 
-pub invariant-of-result : goal.invariant-of-result
-invariant-of-result c =
+pub invariant_of-result : goal.invariant_of-result
+invariant_of-result c =
     let inv = c.loop-rest.invariant in
     let few = few_lines _ _ _ _ c.requires inv.1 inv.2 in
-    (omega (arith, few, c.lines-line.ensures), (first_column _ _ c.in-Err.ensures, tt))
+    record { low = omega (arith, few, c.lines-line.ensures); narrow = first_column _ _ c.in-Err.ensures }
 
 pub returns-in-Err : goal.returns-in-Err
 returns-in-Err c =

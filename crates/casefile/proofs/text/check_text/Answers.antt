@@ -10,4 +10,4 @@ returns-then-text-gt-LIMIT c =
     record { answer = answer; only = λ q other. checked_same c.args.text.now _ q answer other }
 
 pub returns : goal.returns
-returns c = record { answer = c.check-lines.ensures; only = λ q other. checked_same c.args.text.now _ q c.check-lines.ensures other }
+returns c = record { answer = c.check_lines.ensures; only = λ q other. checked_same c.args.text.now _ q c.check_lines.ensures other }

@@ -4,5 +4,5 @@ use Rattle.casefile.proofs.write.counts_line.Goals as goal
 
 pub returns : goal.returns
 returns c =
-    c.fill-ended.ensures
+    c.fill_ended.ensures
     ∙ (λ i. (67 ∷ slotted (c.slot.ensures i ∷ c.slot-2.ensures i ∷ c.slot-3.ensures i ∷ c.slot-4.ensures i ∷ [])) ++ 10 ∷ [])

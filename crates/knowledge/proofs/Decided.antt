@@ -4,7 +4,7 @@ use Rattle.std.proofs.Common.{◌≡◌, true, ◌⊎◌, List, [], ◌∷◌, S
 use mathlib.Core.Bool.{Bool-discrete}
 use Rattle.knowledge.specs.Terms.{Term, term_discrete, parts, ◌∈◌, here, there}
 use Rattle.knowledge.specs.Meanings.{Taking, Meaning}
-use Rattle.knowledge.specs.Rounds.{Built, Taken, Leads, within}
+use Rattle.knowledge.specs.Rounds.{Built, Taken, Leads}
 use Rattle.knowledge.proofs.Lists.{no_side, same_side}
 
 abbrev pub same? : (t u : Term) → Dec (t ≡ u)

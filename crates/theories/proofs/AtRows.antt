@@ -1,7 +1,7 @@
 -- What the rows of a case tell of the terms in them.
 use Rattle.std.proofs.Common.{◌≡◌, ℕ, false, [], map, Some, None, ap, ◌∙◌, arith}
 use Rattle.std.specs.Option.{option_map}
-use Rattle.knowledge.specs.Terms.{Term, atom, one, two, kind}
+use Rattle.knowledge.specs.Terms.{Term, atom, one, two}
 use Rattle.knowledge.specs.Meanings.{Meaning}
 use Rattle.cases.specs.declared.row.Row.{Row}
 use Rattle.cases.specs.declared.case.Case.{Case}

@@ -1,5 +1,4 @@
-use Rattle.std.proofs.Common.{◌≡◌, [], ◌∷◌, drop, refl, ap, ◌∙◌, inl, inr, rules}
-use Rattle.casefile.specs.declared.layout.Letter.TheVariants.{Term}
+use Rattle.std.proofs.Common.{◌≡◌, [], ◌∷◌, drop, refl, ap, ◌∙◌, rules}
 use Rattle.casefile.proofs.Cuts.{first_byte, part_behind, left_behind, last_behind}
 use Rattle.casefile.proofs.line.cut_term.Goals as goal
 use Rattle.casefile.proofs.line.cut_term.Goals.{After-split_at-3}

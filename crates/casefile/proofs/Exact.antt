@@ -2,7 +2,7 @@
 use Rattle.std.proofs.Common.{◌≡◌, ℕ, zero, suc, ◌+◌, ◌-◌, ◌/◌, ◌<◌, ◌≤◌, List, [], ◌∷◌, ◌++◌, length, get_or, drop, Ok, Err, Result, sym, refl, ap, ◌∙◌, subst, append_assoc, append-nil, arith, length-append}
 use mathlib.Core.HLevel.{is_prop→PathP}
 use native.Mathlib.Bridge.{le_prop}
-use Rattle.std.specs.List.{AllByRecursion as All}
+use Rattle.std.specs.List.{AllByRecursion}
 use Rattle.std.proofs.ByRecursion.{All-from_get_or, All-append, All-push}
 use Rattle.std.proofs.lemmas.List.{get_or_at}
 use Rattle.std.proofs.lemmas.Bool.{cases_eq}
@@ -27,25 +27,25 @@ Inner b = b ≡ 10 → ⊥
 inner_mark : (n : ℕ) → Inner (mark n)
 inner_mark n e = grind (arith, nat_tests, cases_eq n 0)
 
-inner_front : (w n : ℕ) → All Inner (front w n)
+inner_front : (w n : ℕ) → AllByRecursion Inner (front w n)
 inner_front zero n = tt
 inner_front (suc w) n = All-push Inner (front w (n / 10)) (mark n) (inner_front w (n / 10)) (inner_mark n)
 
-inner_field : (w n : ℕ) → All Inner (field_of w n)
+inner_field : (w n : ℕ) → AllByRecursion Inner (field_of w n)
 inner_field w n = All-push Inner (front (w - 1) (n / 10)) (digit n) (inner_front (w - 1) (n / 10)) (λ e. omega arith)
 
-inner_spaced : (ts : List (List ℕ)) → All (All Inner) ts → All Inner (spaced ts)
+inner_spaced : (ts : List (List ℕ)) → AllByRecursion (AllByRecursion Inner) ts → AllByRecursion Inner (spaced ts)
 inner_spaced [] all = tt
 inner_spaced (t ∷ ts) all = ((λ e. omega arith), All-append Inner t (spaced ts) all.0 (inner_spaced ts all.1))
 
-inner_line : (r : Record) → All Inner (line_of r)
+inner_line : (r : Record) → AllByRecursion Inner (line_of r)
 inner_line (Term row kind left right) = ((λ e. omega arith), inner_spaced (texts (Term row kind left right)) (inner_field 4 row.value, (inner_field 2 kind.value, (inner_field 4 left.value, (inner_field 4 right.value, tt)))))
 inner_line (Given row) = ((λ e. omega arith), inner_spaced (texts (Given row)) (inner_field 4 row.value, tt))
 inner_line (Ask row) = ((λ e. omega arith), inner_spaced (texts (Ask row)) (inner_field 4 row.value, tt))
 inner_line (Show row) = ((λ e. omega arith), inner_spaced (texts (Show row)) (inner_field 4 row.value, tt))
 
 -- the first newline is in one place
-cut_same : (a b x y : List ℕ) → All Inner a → All Inner b → a ++ 10 ∷ x ≡ b ++ 10 ∷ y → (a ≡ b) × (x ≡ y)
+cut_same : (a b x y : List ℕ) → AllByRecursion Inner a → AllByRecursion Inner b → a ++ 10 ∷ x ≡ b ++ 10 ∷ y → (a ≡ b) × (x ≡ y)
 cut_same [] [] x y p q e = (refl, ap (drop 1) e)
 cut_same [] (b ∷ bs) x y p q e = absurd (q.0 (sym (ap (λ l. get_or l 0 0) e)))
 cut_same (a ∷ l) [] x y p q e = absurd (p.0 (ap (λ l. get_or l 0 0) e))
@@ -53,7 +53,7 @@ cut_same (a ∷ l) (b ∷ bs) x y p q e =
     let rest = cut_same l bs x y p.1 q.1 (ap (drop 1) e) in
     ((λ i. get_or (e i) 0 0 ∷ rest.0 i), rest.1)
 
-inner_one : (t : List ℕ) → OneLine t → All Inner t
+inner_one : (t : List ℕ) → OneLine t → AllByRecursion Inner t
 inner_one t h = All-from_get_or Inner t 0 h
 
 -- records whose text begins a text of records are the first of those, and the rest says the others

@@ -2,7 +2,7 @@
 use Rattle.std.proofs.Common.{◌≡◌, ℕ, ◌+◌, ◌-◌, ◌^◌, ◌<◌, min, Bool, true, false, cond, not, T, eqb, List, [], ◌∷◌, ◌++◌, map, length, get_or, take, drop, IsErrAnd, Ok, Err, Result, sym, refl, ap, ◌∙◌, subst, inl, inr, arith, length-drop, take-append-drop, MatchResult}
 use mathlib.Core.HLevel.{is_prop→PathP}
 use native.Mathlib.Bridge.{le_prop}
-use Rattle.std.specs.List.{AllByRecursion as All}
+use Rattle.std.specs.List.{AllByRecursion}
 use Rattle.std.proofs.lemmas.List.{nil_from_length, drop_more, drop-drop}
 use Rattle.std.proofs.lemmas.Bool.{eq-eqb}
 use Rattle.casefile.specs.declared.fault.FieldFault.{FieldFault}
@@ -41,7 +41,7 @@ letter_same : (l m : Letter) → byte_of l ≡ byte_of m → l ≡ m
 letter_same l m e = sym (letter_by_lem l) ∙ ap letter_by e ∙ letter_by_lem m
 
 -- where all are good, none is the first that is not
-none_bad : {X : Type 0} (G : X → Type 0) (xs : List X) (bad : X) → All G xs → FirstBad G xs bad → ⊥
+none_bad : {X : Type 0} (G : X → Type 0) (xs : List X) (bad : X) → AllByRecursion G xs → FirstBad G xs bad → ⊥
 none_bad G [] bad all first = first
 none_bad G (x ∷ xs) bad all (inl here) = here.0 all.0
 none_bad G (x ∷ xs) bad all (inr later) = none_bad G xs bad all.1 later.1
@@ -53,13 +53,13 @@ right_line (Given row) = refl
 right_line (Ask row) = refl
 right_line (Show row) = refl
 
-spaced_line : (r : Record) → All (SpaceAt (line_of r)) (spaces (letter_of r))
+spaced_line : (r : Record) → AllByRecursion (SpaceAt (line_of r)) (spaces (letter_of r))
 spaced_line (Term row kind left right) = (refl, (refl, (refl, (refl, tt))))
 spaced_line (Given row) = (refl, tt)
 spaced_line (Ask row) = (refl, tt)
 spaced_line (Show row) = (refl, tt)
 
-formed_line : (r : Record) → All (λ p. WellFormed p.1 (part_at (line_of r) p)) (fields (letter_of r))
+formed_line : (r : Record) → AllByRecursion (λ p. WellFormed p.1 (part_at (line_of r) p)) (fields (letter_of r))
 formed_line (Term row kind left right) = ((row, refl), ((kind, refl), ((left, refl), ((right, refl), tt))))
 formed_line (Given row) = ((row, refl), tt)
 formed_line (Ask row) = ((row, refl), tt)
@@ -68,8 +68,8 @@ formed_line (Show row) = ((row, refl), tt)
 pub never_fails : (r : Record) (e : LineFault) → Fails (line_of r) e → ⊥
 never_fails r NoLetter h = h (letter_of r) refl
 never_fails r (WrongLength c) h = h.2 (subst (RightLength (line_of r)) (letter_same _ _ h.1) (right_line r))
-never_fails r (NoSpace c) h = none_bad _ _ c (subst (λ l. All (SpaceAt (line_of r)) (spaces l)) (letter_same _ _ h.1) (spaced_line r)) h.3
-never_fails r (BadField f) h = none_bad _ _ _ (subst (λ l. All (λ p. WellFormed p.1 (part_at (line_of r) p)) (fields l)) (letter_same _ _ h.1) (formed_line r)) h.4.1
+never_fails r (NoSpace c) h = none_bad _ _ c (subst (λ l. AllByRecursion (SpaceAt (line_of r)) (spaces l)) (letter_same _ _ h.1) (spaced_line r)) h.3
+never_fails r (BadField f) h = none_bad _ _ _ (subst (λ l. AllByRecursion (λ p. WellFormed p.1 (part_at (line_of r) p)) (fields l)) (letter_same _ _ h.1) (formed_line r)) h.4.1
 
 -- numbers of one width are told from their values
 number_same : (w : ℕ) (m n : Number w) → m.value ≡ n.value → m ≡ n
@@ -122,7 +122,7 @@ some_long [] = omega arith
 some_long (w ∷ ws) = omega (arith, some_long ws)
 
 -- a text with right spaces is its fields behind spaces, from place i, which is column c, on
-from_spaces : (t ws : List ℕ) (i c : ℕ) → c ≡ i + 1 → length (drop i t) + 1 ≡ long ws → All (SpaceAt t) (spaces_from c ws) → drop i t ≡ spaced (map (part_at t) (fields_from c ws))
+from_spaces : (t ws : List ℕ) (i c : ℕ) → c ≡ i + 1 → length (drop i t) + 1 ≡ long ws → AllByRecursion (SpaceAt t) (spaces_from c ws) → drop i t ≡ spaced (map (part_at t) (fields_from c ws))
 from_spaces t [] i c at fits all = nil_from_length (drop i t) (omega arith)
 from_spaces t (w ∷ ws) i c at fits all =
     let within : i < length t = omega (arith, length-drop i t, some_long ws) in

@@ -1,7 +1,7 @@
 -- Texts as lines: cutting, counting, and the bounds of what is reported. Assumes nothing.
 use Rattle.std.proofs.Common.{◌≡◌, ℕ, ◌+◌, ◌-◌, ◌<◌, ◌≤◌, List, [], ◌∷◌, ◌++◌, length, get_or, take, drop, sym, refl, ap, ◌∙◌, subst, inl, inr, append_assoc, append-nil, arith, length-append, take-append-drop}
 use native.Mathlib.Nat.{sub-zero}
-use Rattle.std.specs.List.{AllByRecursion as All}
+use Rattle.std.specs.List.{AllByRecursion}
 use Rattle.std.proofs.lemmas.List.{take_rest, drop_more, get_or-take, length-take-le, nil_from_length}
 use Rattle.casefile.specs.declared.fault.LineFault.{LineFault}
 use Rattle.casefile.specs.declared.fault.LineFault.TheVariants.{NoLetter, WrongLength, NoSpace, BadField}
@@ -70,12 +70,12 @@ lines_fit (r ∷ rs) = omega (arith, length-append (line_of r) (10 ∷ text_of r
 
 -- the columns of faults
 
-first_in : {X : Type 0} (G P : X → Type 0) (xs : List X) (bad : X) → All P xs → FirstBad G xs bad → P bad
+first_in : {X : Type 0} (G P : X → Type 0) (xs : List X) (bad : X) → AllByRecursion P xs → FirstBad G xs bad → P bad
 first_in G P [] bad all h = absurd h
 first_in G P (x ∷ xs) bad all (inl here) = subst P (sym here.1) all.0
 first_in G P (x ∷ xs) bad all (inr later) = first_in G P xs bad all.1 later.1
 
-narrow : (l : Letter) → (long (widths l) ≤ 19) × All (λ c. c < 100) (spaces l) × All (λ (p : ℕ × ℕ). p.0 < 100) (fields l)
+narrow : (l : Letter) → (long (widths l) ≤ 19) × AllByRecursion (λ c. c < 100) (spaces l) × AllByRecursion (λ (p : ℕ × ℕ). p.0 < 100) (fields l)
 narrow letters.Term = (omega arith, (omega arith, (omega arith, (omega arith, (omega arith, tt)))), (omega arith, (omega arith, (omega arith, (omega arith, tt)))))
 narrow letters.Given = (omega arith, (omega arith, tt), (omega arith, tt))
 narrow letters.Ask = (omega arith, (omega arith, tt), (omega arith, tt))

@@ -1,6 +1,6 @@
 -- A line taken apart into its fields.
 use Rattle.std.specs.Prelude.{◌≡◌, ℕ, List, [], ◌∷◌, map, Ok, Err, Result}
-use Rattle.std.specs.List.{AllByRecursion as All}
+use Rattle.std.specs.List.{AllByRecursion}
 use Rattle.casefile.specs.declared.fault.LineFault.{LineFault}
 use Rattle.casefile.specs.declared.layout.Letter.{Letter}
 use Rattle.casefile.specs.declared.layout.Letter.TheVariants as letters
@@ -42,7 +42,7 @@ placed_at t p = (p.1, p.0, part_at t p)
 pub record Apart (t : List ℕ) (line : Line) : Type 0 where
   pub begins : Begins t (letter_in line)
   pub right : RightLength t (letter_in line)
-  pub spaced : All (SpaceAt t) (spaces (letter_in line))
+  pub spaced : AllByRecursion (SpaceAt t) (spaces (letter_in line))
   pub parts : fields_in line ≡ map (placed_at t) (fields (letter_in line))
 
 -- what taking a line apart answers: its fields, or the fault of the first question before those on fields that it fails

@@ -1,6 +1,6 @@
 -- Lines written into lent bytes.
 use Rattle.std.specs.Prelude.{◌≡◌, ℕ, ◌+◌, ◌<◌, List, [], ◌∷◌, ◌++◌, map, length, drop, Ok, Err, Result}
-use Rattle.std.specs.List.{AllByRecursion as All}
+use Rattle.std.specs.List.{AllByRecursion}
 use Rattle.casefile.specs.declared.put.Slot.{Slot}
 use Rattle.casefile.specs.declared.put.TooShort.{TooShort}
 use Rattle.casefile.specs.Fields.{field_of}
@@ -26,4 +26,4 @@ span_of (s ∷ ss) = 1 + s.width + span_of ss
 
 -- each number has a column
 abbrev pub Wide : List Slot → Type 0
-Wide ss = All (λ s. 0 < s.width) ss
+Wide ss = AllByRecursion (λ s. 0 < s.width) ss

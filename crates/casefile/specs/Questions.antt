@@ -1,6 +1,6 @@
 -- The questions asked of a line, in their order: letter, length, spaces, fields. A fault names the first no.
 use Rattle.std.specs.Prelude.{◌≡◌, ℕ, ◌+◌, min, ◌⊎◌, List, [], ◌∷◌, length, Ok, Err, Result}
-use Rattle.std.specs.List.{AllByRecursion as All}
+use Rattle.std.specs.List.{AllByRecursion}
 use Rattle.casefile.specs.declared.fault.FieldFault.{FieldFault}
 use Rattle.casefile.specs.declared.fault.LineFault.{LineFault}
 use Rattle.casefile.specs.declared.fault.LineFault.TheVariants.{NoLetter, WrongLength, NoSpace, BadField}
@@ -30,7 +30,7 @@ abbrev pub Fails : List ℕ → LineFault → Type 0
 Fails t NoLetter = (l : Letter) → Begins t l → ⊥
 Fails t (WrongLength c) = (l : Letter) × Begins t l × (RightLength t l → ⊥) × (c ≡ min (length t) (long (widths l)) + 1)
 Fails t (NoSpace c) = (l : Letter) × Begins t l × RightLength t l × FirstBad (SpaceAt t) (spaces l) c
-Fails t (BadField f) = (l : Letter) × Begins t l × RightLength t l × All (SpaceAt t) (spaces l) × ((w : ℕ) × FirstBad (λ p. WellFormed p.1 (part_at t p)) (fields l) (f.column, w))
+Fails t (BadField f) = (l : Letter) × Begins t l × RightLength t l × AllByRecursion (SpaceAt t) (spaces l) × ((w : ℕ) × FirstBad (λ p. WellFormed p.1 (part_at t p)) (fields l) (f.column, w))
 
 -- a fault that shows before any field is read
 abbrev pub BeforeFields : LineFault → Type 0

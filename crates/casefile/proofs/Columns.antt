@@ -7,9 +7,9 @@ use Rattle.std.proofs.lemmas.Bool.{cases_eq}
 use Rattle.std.proofs.lemmas.Bool.Decides.{nat_tests}
 use Rattle.casefile.specs.Fields.{digit, mark, front, field_of}
 
-pub length_front : (w n : ℕ) → length (front w n) ≡ w
-length_front zero n = refl
-length_front (suc w) n = length_push (front w (n / 10)) (mark n) ∙ add-one _ ∙ ap suc (length_front w (n / 10))
+pub length-front : (w n : ℕ) → length (front w n) ≡ w
+length-front zero n = refl
+length-front (suc w) n = length_push (front w (n / 10)) (mark n) ∙ add-one _ ∙ ap suc (length-front w (n / 10))
 
 -- marks tell numbers of equal tens apart
 mark_same : (m n : ℕ) → m / 10 ≡ n / 10 → mark m ≡ mark n → m ≡ n
@@ -58,7 +58,7 @@ pub eight_columns : (x w : ℕ) → w ≤ 8 → x < 10 ^ w → x < 100000000
 eight_columns x w le lt = omega (arith, pow-le-pow_right {n = 10} (omega arith) {i = w} {j = 8} le)
 
 pub length-field_of : (w n : ℕ) → 0 < w → length (field_of w n) ≡ w
-length-field_of w n some = length_push (front (w - 1) (n / 10)) (digit n) ∙ ap (λ (k : ℕ). k + 1) (length_front (w - 1) (n / 10)) ∙ omega arith
+length-field_of w n some = length_push (front (w - 1) (n / 10)) (digit n) ∙ ap (λ (k : ℕ). k + 1) (length-front (w - 1) (n / 10)) ∙ omega arith
 
 -- numbers that fit are told from their fields
 pub field_of_same : (w m n : ℕ) → 0 < w → m < 10 ^ w → n < 10 ^ w → field_of w m ≡ field_of w n → m ≡ n

@@ -11,9 +11,9 @@ abbrev pub refusal_line : Refusal → List ℕ
 refusal_line e = 70 ∷ spaced (field_of 5 e.line ∷ field_of 2 (report_of e.fault).column ∷ field_of 1 (report_of e.fault).layer ∷ field_of 2 (report_of e.fault).number ∷ [])
 
 -- the letter C and four counts of lines
-abbrev pub counts_line : ℕ → ℕ → ℕ → ℕ → List ℕ
-counts_line a b c d = 67 ∷ spaced (field_of 5 a ∷ field_of 5 b ∷ field_of 5 c ∷ field_of 5 d ∷ [])
+abbrev pub line_of_counts : ℕ → ℕ → ℕ → ℕ → List ℕ
+line_of_counts a b c d = 67 ∷ spaced (field_of 5 a ∷ field_of 5 b ∷ field_of 5 c ∷ field_of 5 d ∷ [])
 
 -- how many terms, given marks, asks and shows a text holds
 abbrev pub summary_line : Summary → List ℕ
-summary_line s = counts_line s.terms s.given s.asks s.shows
+summary_line s = line_of_counts s.terms s.given s.asks s.shows

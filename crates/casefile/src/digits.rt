@@ -7,7 +7,9 @@ use super::number::WIDEST;
 // One more column before the last: `above` is what stands before it, 0 where all is blank.
 fn next(above: u32, byte: u8) -> Option<u32>
     requires { above < 100000000 }
-    ensures { MatchOption result ((n : ℕ) → n / 10 ≡ above → mark n ≢ byte) (λ n. (n / 10 ≡ above) × (mark n ≡ byte)) }
+    ensures { MatchOption result
+        ((n : ℕ) → n / 10 ≡ above → mark n ≢ byte)
+        (λ n. (n / 10 ≡ above) × (mark n ≡ byte)) }
 {
     match byte {
         b' ' if above == 0 => Some(0),
@@ -20,7 +22,9 @@ fn next(above: u32, byte: u8) -> Option<u32>
 // The last column, which is a digit.
 fn last(above: u32, byte: u8) -> Option<u32>
     requires { above < 100000000 }
-    ensures { MatchOption result ((n : ℕ) → n / 10 ≡ above → digit n ≢ byte) (λ n. (n / 10 ≡ above) × (digit n ≡ byte)) }
+    ensures { MatchOption result
+        ((n : ℕ) → n / 10 ≡ above → digit n ≢ byte)
+        (λ n. (n / 10 ≡ above) × (digit n ≡ byte)) }
 {
     match byte {
         b'0'..=b'9' => Some(above * 10 + (byte - b'0') as u32),
@@ -45,7 +49,9 @@ fn mark_of(n: u32) -> u8
 // The number whose columns before the last one these are.
 fn read_front(text: &[u8]) -> Option<u32>
     requires { length text.now ≤ 8 }
-    ensures { MatchOption result ((n : ℕ) → n < 10 ^ length text.now → text.now ≢ front (length text.now) n) (λ n. (n < 10 ^ length text.now) × (text.now ≡ front (length text.now) n)) }
+    ensures { MatchOption result
+        ((n : ℕ) → n < 10 ^ length text.now → text.now ≢ front (length text.now) n)
+        (λ n. (n < 10 ^ length text.now) × (text.now ≡ front (length text.now) n)) }
 {
     let [rest @ .., byte] = text else {
         return Some(0);
@@ -57,7 +63,9 @@ fn read_front(text: &[u8]) -> Option<u32>
 // The number whose columns these are, of a field that is as wide as the text.
 fn read_columns(text: &[u8]) -> Option<u32>
     requires { length text.now ≤ 9 }
-    ensures { MatchOption result ((n : ℕ) → n < 10 ^ length text.now → text.now ≢ field_of (length text.now) n) (λ n. (n < 10 ^ length text.now) × (text.now ≡ field_of (length text.now) n)) }
+    ensures { MatchOption result
+        ((n : ℕ) → n < 10 ^ length text.now → text.now ≢ field_of (length text.now) n)
+        (λ n. (n < 10 ^ length text.now) × (text.now ≡ field_of (length text.now) n)) }
 {
     let [rest @ .., byte] = text else {
         return None;
@@ -69,7 +77,9 @@ fn read_columns(text: &[u8]) -> Option<u32>
 // The number whose field of `width` columns this text is.
 pub(crate) fn read_number(text: &[u8], width: usize) -> Option<u32>
     ensures digits { IfSome result (λ n. text.now ≡ justified width n) }
-    ensures answer { MatchOption result ((n : ℕ) → 0 < width → width ≤ 9 → n < 10 ^ width → text.now ≢ field_of width n) (λ n. (0 < width) × (width ≤ 9) × (n < 10 ^ width) × (text.now ≡ field_of width n)) }
+    ensures answer { MatchOption result
+        ((n : ℕ) → 0 < width → width ≤ 9 → n < 10 ^ width → text.now ≢ field_of width n)
+        (λ n. (0 < width) × (width ≤ 9) × (n < 10 ^ width) × (text.now ≡ field_of width n)) }
 {
     if text.len() != width || width > WIDEST {
         return None;

@@ -56,7 +56,9 @@ pub(crate) enum Letter {
 
 impl Letter {
     pub(crate) fn of(byte: u8) -> Option<Letter>
-        ensures { MatchOption result ((l : Letter) → byte ≢ byte_of l) (λ l. byte ≡ byte_of l) }
+        ensures { MatchOption result
+            ((l : Letter) → byte ≢ byte_of l)
+            (λ l. byte ≡ byte_of l) }
     {
         match byte {
             b'T' => Some(Letter::Term),

@@ -93,7 +93,10 @@ fn field_at<'a>(column: usize, text: &'a [u8]) -> Field<'a>
 // The row of a line that has no other field, from what stands behind its letter.
 fn cut_row<'a>(letter: Letter, rest: &'a [u8]) -> Result<Field<'a>, LineFault>
     requires { widths letter ≡ 4 ∷ [] }
-    ensures { MatchResult result (λ f. (length rest.now ≡ 5) × SpaceAt (byte_of letter ∷ rest.now) 2 × (placed 4 f ≡ placed_at (byte_of letter ∷ rest.now) (3, 4))) (λ e. Fails (byte_of letter ∷ rest.now) e × BeforeFields e) }
+    ensures { MatchResult result
+        (λ f. (length rest.now ≡ 5) × SpaceAt (byte_of letter ∷ rest.now) 2
+        × (placed 4 f ≡ placed_at (byte_of letter ∷ rest.now) (3, 4)))
+        (λ e. Fails (byte_of letter ∷ rest.now) e × BeforeFields e) }
 {
     if rest.len() != MARK_LENGTH - 1 {
         return Err(wrong_length(rest.len() + 1, MARK_LENGTH));
@@ -164,7 +167,9 @@ impl<'a> Line<'a> {
 
     // What the line says, or its first field that is no number of its width.
     pub fn record(&self) -> Result<Record, FieldFault>
-        ensures { MatchResult result (λ said. Says self.now said) (λ e. FirstUnread self.now e.column) }
+        ensures { MatchResult result
+            (λ said. Says self.now said)
+            (λ e. FirstUnread self.now e.column) }
     {
         match self {
             Line::Term {

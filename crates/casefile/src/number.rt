@@ -16,7 +16,9 @@ pub struct Number<const W: usize> {
 impl<const W: usize> Number<W> {
     // The number, if a field of `W` columns can hold it.
     pub fn new(value: u32) -> Option<Self>
-        ensures { MatchOption result (0 < W → W ≤ 9 → value < 10 ^ W → ⊥) (λ n. n.value ≡ value) }
+        ensures { MatchOption result
+            (0 < W → W ≤ 9 → value < 10 ^ W → ⊥)
+            (λ n. n.value ≡ value) }
     {
         if W == 0 || W > WIDEST {
             return None;

@@ -31,7 +31,8 @@ pub struct TooShort {
 }
 
 fn put_slots(out: &mut [u8], slots: &[Slot])
-    requires { (length out.old ≡ span_of slots.now) × (Wide slots.now) }
+    requires span { length out.old ≡ span_of slots.now }
+    requires wide { Wide slots.now }
     ensures { out.new ≡ slotted slots.now }
 {
     let [slot, more @ ..] = slots else {
@@ -45,7 +46,8 @@ fn put_slots(out: &mut [u8], slots: &[Slot])
 
 // Fills `out` with a line.
 fn fill_line(out: &mut [u8], letter: u8, slots: &[Slot])
-    requires { (length out.old ≡ 1 + span_of slots.now) × (Wide slots.now) }
+    requires span { length out.old ≡ 1 + span_of slots.now }
+    requires wide { Wide slots.now }
     ensures { out.new ≡ letter ∷ slotted slots.now }
 {
     out[0] = letter;
@@ -59,7 +61,8 @@ pub(crate) fn put_line(
     slots: &[Slot],
     long: usize,
 ) -> Result<usize, TooShort>
-    requires { (long ≡ 1 + span_of slots.now) × (Wide slots.now) }
+    requires span { long ≡ 1 + span_of slots.now }
+    requires wide { Wide slots.now }
     ensures { Wrote (letter ∷ slotted slots.now) out.old out.new result }
 {
     if out.len() < long {
@@ -71,7 +74,8 @@ pub(crate) fn put_line(
 
 // Fills `out` with a line and its newline.
 pub(crate) fn fill_ended(out: &mut [u8], letter: u8, slots: &[Slot])
-    requires { (length out.old ≡ 2 + span_of slots.now) × (Wide slots.now) }
+    requires span { length out.old ≡ 2 + span_of slots.now }
+    requires wide { Wide slots.now }
     ensures { out.new ≡ (letter ∷ slotted slots.now) ++ 10 ∷ [] }
 {
     let end = out.len() - 1;

@@ -1,6 +1,6 @@
 // What is written: a record's line, and the lines that the program prints.
 ghost use Rattle.std.specs.Prelude.{◌≡◌, [], ◌∷◌, ◌++◌};
-ghost use Rattle.casefile.specs.Printed.{refusal_line, counts_line, summary_line};
+ghost use Rattle.casefile.specs.Printed.{refusal_line, line_of_counts, summary_line};
 ghost use Rattle.casefile.specs.Put.{Wrote};
 ghost use Rattle.casefile.specs.Records.{line_of};
 
@@ -72,7 +72,7 @@ fn counts_line(
     asks: Number<COUNT_WIDTH>,
     shows: Number<COUNT_WIDTH>,
 ) -> [u8; COUNTS_LENGTH]
-    ensures { result ≡ counts_line terms.value given.value asks.value shows.value ++ 10 ∷ [] }
+    ensures { result ≡ line_of_counts terms.value given.value asks.value shows.value ++ 10 ∷ [] }
 {
     let slots = [terms.slot(), given.slot(), asks.slot(), shows.slot()];
     let mut out = [0; COUNTS_LENGTH];

@@ -12,7 +12,7 @@ use Rattle.cases.specs.Rows.{alike, blank, is_blank, unused}
 use Rattle.cases.specs.Said.{numbered, term_among, said, terms}
 use Rattle.cases.specs.Case.{rows_of, row_at, terms_of, term_at, kind_at, given_of, row_of, Holds}
 use Rattle.cases.specs.Theorems.{Before, Kept, Sound, CasesKeep, RowsSayTerms, Proper, TermsProper, GivenRows, CasesCover, TermsDiffer, OneRow}
-use Rattle.cases.proofs.Numbered.{numbered-take, nth_drop, nth_in, numbered_in, in_nth, numbered_within}
+use Rattle.cases.proofs.Numbered.{numbered-take, slice_get-drop, slice_get_in, numbered_in, in_slice_get, numbered_within}
 use Rattle.cases.proofs.RowsInUse.{used_is}
 use Rattle.cases.proofs.Standing.{alike_is}
 use Rattle.cases.proofs.Said.{by_parts, AllKept, terms_said, said_at, said_by_row}
@@ -42,7 +42,7 @@ module _ (rows : List Row) (kept : AllKept rows) where
 
   closed : (t u : Term) → t ∈ ts → u ∈ parts t → u ∈ ts
   closed t u i j =
-      let (k, e) = in_nth ts t i in
+      let (k, e) = in_slice_get ts t i in
       let (r, at, says) = said_by_row rows kept (suc k) t e in
       parts_in (suc k) r at u (subst (λ x. u ∈ parts x) (sym says) j)
 
@@ -73,7 +73,7 @@ module _ (c : Case) where
       let used : c.used ≤ i = omega (arith, used_is c) in
       let i_is : c.used + (i - c.used) ≡ i = omega arith in
       let short : i - c.used < length (drop c.used all) = rw length-drop (omega (arith, c.full)) in
-      ap (slice_get all) (sym i_is) ∙ (sym (nth_drop all c.used (i - c.used)) ∙ unused_at (drop c.used all) c.rest (i - c.used) short)
+      ap (slice_get all) (sym i_is) ∙ (sym (slice_get-drop all c.used (i - c.used)) ∙ unused_at (drop c.used all) c.rest (i - c.used) short)
 
   given_in_use : (n : ℕ) (r : Row) → numbered all n ≡ Some r → r.given ≡ true → row_at c n ≡ Some r
   given_in_use n r e given = elim (cases_lt c.used n) [ inl l ↦ absurd (true≢false (sym given ∙ unmarked l)) | inr l ↦ numbered-take all c.used n l ∙ e ]
@@ -99,7 +99,7 @@ kind_said c n = by (row_at c n) (said_at (rows_of c) (case_sound c).each n)
 
 pub terms_proper : TermsProper
 terms_proper c t i =
-    let (k, e) = in_nth (terms_of c) t i in
+    let (k, e) = in_slice_get (terms_of c) t i in
     let (r, at, says) = said_by_row (rows_of c) (case_sound c).each (suc k) t e in
     subst Proper says (proper r ((case_sound c).each (suc k) r at))
   where
@@ -125,7 +125,7 @@ given_rows c t = (into, from)
 pub cases_cover : CasesCover
 cases_cover c = record {
   parts_too = closed (rows_of c) (case_sound c).each;
-  given_too = λ t i. let (k, r, at, given, is) = marked_from t (rows_of c) (terms_of c) i in nth_in (terms_of c) k t is;
+  given_too = λ t i. let (k, r, at, given, is) = marked_from t (rows_of c) (terms_of c) i in slice_get_in (terms_of c) k t is;
 }
 
 pub terms_differ : TermsDiffer

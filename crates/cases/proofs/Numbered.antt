@@ -2,75 +2,66 @@
 use Rattle.std.proofs.Common.{◌≡◌, ℕ, zero, suc, ◌+◌, ◌<◌, ◌≤◌, List, [], ◌∷◌, ◌++◌, map, length, take, drop, Some, sym, refl, ap, le_of_suc-le-suc, not-suc-le-zero, suc-add, zero-add, arith}
 use Rattle.std.specs.List.{slice_get}
 use Rattle.std.specs.Option.{option_map}
+use Rattle.std.proofs.lemmas.Option.{slice_get-map, slice_get_within}
 use Rattle.knowledge.specs.Terms.{◌∈◌, here, there}
 use Rattle.knowledge.proofs.Lists.{no_side, same_side}
 use Rattle.cases.specs.Said.{numbered}
 
 -- the front of a list keeps its entries, whatever stands behind it
-pub nth_left : {A : Type 0} (xs ys : List A) (i : ℕ) → i < length xs → slice_get (xs ++ ys) i ≡ slice_get xs i
-nth_left [] ys i l = absurd (not-suc-le-zero l)
-nth_left (x ∷ xs) ys zero l = refl
-nth_left (x ∷ xs) ys (suc i) l = nth_left xs ys i (le_of_suc-le-suc l)
+pub slice_get_left : {A : Type 0} (xs ys : List A) (i : ℕ) → i < length xs → slice_get (xs ++ ys) i ≡ slice_get xs i
+slice_get_left [] ys i l = absurd (not-suc-le-zero l)
+slice_get_left (x ∷ xs) ys zero l = refl
+slice_get_left (x ∷ xs) ys (suc i) l = slice_get_left xs ys i (le_of_suc-le-suc l)
 
 pub numbered_left : {A : Type 0} (xs ys : List A) (n : ℕ) → n ≤ length xs → numbered (xs ++ ys) n ≡ numbered xs n
 numbered_left xs ys zero l = refl
-numbered_left xs ys (suc n) l = nth_left xs ys n l
+numbered_left xs ys (suc n) l = slice_get_left xs ys n l
 
-pub nth-take : {A : Type 0} (xs : List A) (k i : ℕ) → i < k → slice_get (take k xs) i ≡ slice_get xs i
-nth-take [] zero i l = refl
-nth-take [] (suc k) i l = refl
-nth-take (x ∷ xs) zero i l = absurd (not-suc-le-zero l)
-nth-take (x ∷ xs) (suc k) zero l = refl
-nth-take (x ∷ xs) (suc k) (suc i) l = nth-take xs k i (le_of_suc-le-suc l)
+pub slice_get-take : {A : Type 0} (xs : List A) (k i : ℕ) → i < k → slice_get (take k xs) i ≡ slice_get xs i
+slice_get-take [] zero i l = refl
+slice_get-take [] (suc k) i l = refl
+slice_get-take (x ∷ xs) zero i l = absurd (not-suc-le-zero l)
+slice_get-take (x ∷ xs) (suc k) zero l = refl
+slice_get-take (x ∷ xs) (suc k) (suc i) l = slice_get-take xs k i (le_of_suc-le-suc l)
 
 pub numbered-take : {A : Type 0} (xs : List A) (k n : ℕ) → n ≤ k → numbered (take k xs) n ≡ numbered xs n
 numbered-take xs k zero l = refl
-numbered-take xs k (suc n) l = nth-take xs k n l
+numbered-take xs k (suc n) l = slice_get-take xs k n l
 
-pub nth_drop : {A : Type 0} (xs : List A) (k i : ℕ) → slice_get (drop k xs) i ≡ slice_get xs (k + i)
-nth_drop xs zero i = rw zero-add
-nth_drop [] (suc k) i = refl
-nth_drop (x ∷ xs) (suc k) i = rw suc-add (nth_drop xs k i)
-
-pub nth-map : {A B : Type 0} (f : A → B) (xs : List A) (i : ℕ) → slice_get (map f xs) i ≡ option_map f (slice_get xs i)
-nth-map f [] i = refl
-nth-map f (x ∷ xs) zero = refl
-nth-map f (x ∷ xs) (suc i) = nth-map f xs i
+pub slice_get-drop : {A : Type 0} (xs : List A) (k i : ℕ) → slice_get (drop k xs) i ≡ slice_get xs (k + i)
+slice_get-drop xs zero i = rw zero-add
+slice_get-drop [] (suc k) i = refl
+slice_get-drop (x ∷ xs) (suc k) i = rw suc-add (slice_get-drop xs k i)
 
 pub numbered-map : {A B : Type 0} (f : A → B) (xs : List A) (n : ℕ) → numbered (map f xs) n ≡ option_map f (numbered xs n)
 numbered-map f xs zero = refl
-numbered-map f xs (suc n) = nth-map f xs n
+numbered-map f xs (suc n) = slice_get-map f xs n
 
 -- an entry has a number within the list, and such a number has an entry
-pub nth_within : {A : Type 0} (xs : List A) (i : ℕ) (x : A) → slice_get xs i ≡ Some x → i < length xs
-nth_within [] i x e = absurd (no_side e)
-nth_within (y ∷ ys) zero x e = omega arith
-nth_within (y ∷ ys) (suc i) x e = let l = nth_within ys i x e in omega arith
-
 pub numbered_within : {A : Type 0} (xs : List A) (n : ℕ) (x : A) → numbered xs n ≡ Some x → (0 < n) × (n ≤ length xs)
 numbered_within xs zero x e = absurd (no_side e)
-numbered_within xs (suc n) x e = (omega arith, nth_within xs n x e)
+numbered_within xs (suc n) x e = (omega arith, slice_get_within xs n x e)
 
-pub nth_there : {A : Type 0} (xs : List A) (i : ℕ) → i < length xs → (x : A) × (slice_get xs i ≡ Some x)
-nth_there [] i l = absurd (not-suc-le-zero l)
-nth_there (x ∷ xs) zero l = (x, refl)
-nth_there (x ∷ xs) (suc i) l = nth_there xs i (le_of_suc-le-suc l)
+pub slice_get_there : {A : Type 0} (xs : List A) (i : ℕ) → i < length xs → (x : A) × (slice_get xs i ≡ Some x)
+slice_get_there [] i l = absurd (not-suc-le-zero l)
+slice_get_there (x ∷ xs) zero l = (x, refl)
+slice_get_there (x ∷ xs) (suc i) l = slice_get_there xs i (le_of_suc-le-suc l)
 
 pub numbered_there : {A : Type 0} (xs : List A) (n : ℕ) → 0 < n → n ≤ length xs → (x : A) × (numbered xs n ≡ Some x)
 numbered_there xs zero p l = absurd (not-suc-le-zero p)
-numbered_there xs (suc n) p l = nth_there xs n l
+numbered_there xs (suc n) p l = slice_get_there xs n l
 
 -- what has a number stands in the list, and what stands in it has a number
-pub nth_in : {A : Type 0} (xs : List A) (i : ℕ) (x : A) → slice_get xs i ≡ Some x → x ∈ xs
-nth_in [] i x e = absurd (no_side e)
-nth_in (y ∷ ys) zero x e = here (sym (same_side e))
-nth_in (y ∷ ys) (suc i) x e = there (nth_in ys i x e)
+pub slice_get_in : {A : Type 0} (xs : List A) (i : ℕ) (x : A) → slice_get xs i ≡ Some x → x ∈ xs
+slice_get_in [] i x e = absurd (no_side e)
+slice_get_in (y ∷ ys) zero x e = here (sym (same_side e))
+slice_get_in (y ∷ ys) (suc i) x e = there (slice_get_in ys i x e)
 
 pub numbered_in : {A : Type 0} (xs : List A) (n : ℕ) (x : A) → numbered xs n ≡ Some x → x ∈ xs
 numbered_in xs zero x e = absurd (no_side e)
-numbered_in xs (suc n) x e = nth_in xs n x e
+numbered_in xs (suc n) x e = slice_get_in xs n x e
 
-pub in_nth : {A : Type 0} (xs : List A) (x : A) → x ∈ xs → (i : ℕ) × (slice_get xs i ≡ Some x)
-in_nth [] x i = elim i [ ]
-in_nth (y ∷ ys) x (here e) = (0, ap Some (sym e))
-in_nth (y ∷ ys) x (there i) = let (k, e) = in_nth ys x i in (suc k, e)
+pub in_slice_get : {A : Type 0} (xs : List A) (x : A) → x ∈ xs → (i : ℕ) × (slice_get xs i ≡ Some x)
+in_slice_get [] x i = elim i [ ]
+in_slice_get (y ∷ ys) x (here e) = (0, ap Some (sym e))
+in_slice_get (y ∷ ys) x (there i) = let (k, e) = in_slice_get ys x i in (suc k, e)

@@ -5,7 +5,7 @@ use Rattle.knowledge.specs.Terms.{Term, term_discrete, ◌∈◌, here, there}
 use Rattle.knowledge.specs.Theorems.{Once}
 use Rattle.knowledge.proofs.Lists.{no_side}
 use Rattle.cases.specs.Said.{numbered, onward, placed, place_of}
-use Rattle.cases.proofs.Numbered.{numbered_in, in_nth}
+use Rattle.cases.proofs.Numbered.{numbered_in, in_slice_get}
 
 -- each entry has one number
 abbrev pub OneNumber : List Term → Type 0
@@ -14,7 +14,7 @@ OneNumber ts = (n m : ℕ) (t : Term) → numbered ts n ≡ Some t → numbered 
 pub once : (ts : List Term) → OneNumber ts → Once ts
 once [] one_number = tt
 once (t ∷ ts) one_number =
-    ((λ i. let (k, e) = in_nth ts t i in let z = one_number 1 (suc (suc k)) t refl e in omega arith), once ts rest)
+    ((λ i. let (k, e) = in_slice_get ts t i in let z = one_number 1 (suc (suc k)) t refl e in omega arith), once ts rest)
   where
     rest : OneNumber ts
     rest zero m u e f = absurd (no_side e)

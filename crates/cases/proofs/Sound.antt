@@ -10,7 +10,8 @@ use Rattle.cases.specs.Parts.{part_count}
 use Rattle.cases.specs.Rows.{well_formed, alike, standing}
 use Rattle.cases.specs.Said.{numbered, term_among, said_by, said, terms}
 use Rattle.cases.specs.Theorems.{Before, Kept, Sound, SoundRows}
-use Rattle.cases.proofs.Numbered.{nth-take, nth_within, numbered_within}
+use Rattle.cases.proofs.Numbered.{slice_get-take, numbered_within}
+use Rattle.std.proofs.lemmas.Option.{slice_get_within}
 use Rattle.cases.proofs.Standing.{Fits, fits_at, stands_from, new_apart, new_from, Alike, alike_is, is_alike, kept_is, is_kept}
 use Rattle.cases.proofs.Said.{by_parts, AllKept, length-terms, numbered_among, row_says, said_by_row}
 
@@ -89,12 +90,12 @@ module _ (rows : List Row) where
     pub all_kept : AllKept rows
     all_kept zero r e = absurd (no_side e)
     all_kept (suc i) r e =
-        let l = nth_within rows i r e in
+        let l = slice_get_within rows i r e in
         let front : length (take i rows) ≡ i = length-take-le i rows (omega arith) in
         subst (λ n. Kept (suc n) r) front (kept_is (length (take i rows)) r (fits i r e).0)
 
     earlier : (i j : ℕ) (r s : Row) → slice_get rows i ≡ Some r → slice_get rows j ≡ Some s → j < i → Alike r s → ⊥
-    earlier i j r s e f l h = true≢false (sym (is_alike r s h) ∙ new_apart r (take i rows) (fits i r e).1 j s (nth-take rows i j l ∙ f))
+    earlier i j r s e f l h = true≢false (sym (is_alike r s h) ∙ new_apart r (take i rows) (fits i r e).1 j s (slice_get-take rows i j l ∙ f))
 
     all_apart : Apart
     all_apart zero m r s e f h = absurd (no_side e)
@@ -124,12 +125,12 @@ module _ (rows : List Row) where
 
     fits_in : (i : ℕ) (r : Row) → slice_get rows i ≡ Some r → Fits (take i rows) r
     fits_in i r e =
-        let l = nth_within rows i r e in
+        let l = slice_get_within rows i r e in
         let front : length (take i rows) ≡ i = length-take-le i rows (omega arith) in (
           subst (λ n. well_formed n r ≡ true) (sym front) (is_kept i r (sound.each (suc i) r e)),
           new_from r (take i rows) (λ j s f.
-              let before = nth_within (take i rows) j s f in
-              unlike i j r s e (sym (nth-take rows i j (omega arith)) ∙ f) (omega arith)),
+              let before = slice_get_within (take i rows) j s f in
+              unlike i j r s e (sym (slice_get-take rows i j (omega arith)) ∙ f) (omega arith)),
         )
 
     stands_too : standing rows ≡ true

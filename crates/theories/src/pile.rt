@@ -29,7 +29,7 @@ impl<U: Theory, L: Theory> Pile<U, L> {
 impl<U: Theory, L: Theory> Theory for Pile<U, L> {
     ghost meaning = { λ p. pile (U.Theory.meaning p.upper) (L.Theory.meaning p.lower) };
 
-    ghost lawful = { λ theory. pile_lawful _ _ (U.Theory.lawful theory.upper) (L.Theory.lawful theory.lower) };
+    ghost lawful = { λ p. pile_lawful _ _ (U.Theory.lawful p.upper) (L.Theory.lawful p.lower) };
 
     fn owns(&self, kind: u8) -> bool {
         self.upper.owns(kind) || self.lower.owns(kind)

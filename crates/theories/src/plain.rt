@@ -18,7 +18,7 @@ pub struct Plain;
 impl Theory for Plain {
     ghost meaning = { λ _. plain };
 
-    ghost lawful = { λ theory. plain_lawful };
+    ghost lawful = { λ _. plain_lawful };
 
     fn owns(&self, kind: u8) -> bool {
         matches!(kind, PAIR | HASH | CIPHER | CHECK_VALUE)

@@ -18,7 +18,7 @@ pub struct PublicKey;
 impl Theory for PublicKey {
     ghost meaning = { λ _. public_keys };
 
-    ghost lawful = { λ theory. public_key_lawful };
+    ghost lawful = { λ _. public_key_lawful };
 
     fn owns(&self, kind: u8) -> bool {
         matches!(kind, PUBLIC_KEY | SEALED | SIGNATURE)

@@ -18,7 +18,7 @@ pub struct Reply;
 impl Theory for Reply {
     ghost meaning = { λ _. replies };
 
-    ghost lawful = { λ theory. reply_lawful };
+    ghost lawful = { λ _. reply_lawful };
 
     fn owns(&self, kind: u8) -> bool {
         kind == REPLY

@@ -28,5 +28,6 @@ pub trait Theory {
     fn taking(&self, case: &Case, row: u16, number: usize) -> Option<(u16, u16)>
         ensures { result ≡ numbered (taking_rows (meaning self.now) case.now row) number };
 
+    // The laws: each theory shows that its meaning keeps them.
     ghost lawful: { (theory : Self) → Lawful (meaning theory) };
 }

@@ -3,4 +3,4 @@ use Rattle.casefile.proofs.Writes.{length-slotted}
 use Rattle.casefile.proofs.put.put_line.Goals as goal
 
 pub returns-then-out-long : goal.returns-then-out-long
-returns-then-out-long c = let span = length-slotted c.args.slots.now c.requires.1 in search rules
+returns-then-out-long c = let span = length-slotted c.args.slots.now c.requires.wide in search rules

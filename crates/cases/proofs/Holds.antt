@@ -3,8 +3,9 @@ use Rattle.std.proofs.Common.{◌≡◌, ℕ, zero, suc, ◌+◌, ◌-◌, ◌<�
 use Rattle.std.specs.Option.{option_map}
 use Rattle.std.specs.List.{slice_get}
 use Rattle.std.proofs.lemmas.Bool.{and_parts, not-true, cases_lt}
+use Rattle.std.proofs.lemmas.List.{length-take-le}
+use Rattle.std.proofs.lemmas.Option.{none-some, same_Some}
 use Rattle.knowledge.specs.Terms.{Term, atom, kind, parts, ◌∈◌, here, there}
-use Rattle.knowledge.proofs.Lists.{no_side, same_side}
 use Rattle.cases.specs.declared.row.Row.{Row}
 use Rattle.cases.specs.declared.case.Case.{Case}
 use Rattle.cases.specs.Parts.{part_count}
@@ -13,7 +14,6 @@ use Rattle.cases.specs.Said.{numbered, term_among, said, terms}
 use Rattle.cases.specs.Case.{rows_of, row_at, terms_of, term_at, kind_at, given_of, row_of, Holds}
 use Rattle.cases.specs.Theorems.{Before, Kept, Sound, CasesKeep, RowsSayTerms, Proper, TermsProper, GivenRows, CasesCover, TermsDiffer, OneRow}
 use Rattle.cases.proofs.Numbered.{numbered-take, slice_get-drop, slice_get_in, numbered_in, in_slice_get, numbered_within}
-use Rattle.cases.proofs.RowsInUse.{used_is}
 use Rattle.cases.proofs.Standing.{alike_is}
 use Rattle.cases.proofs.Said.{by_parts, AllKept, terms_said, said_at, said_by_row}
 use Rattle.cases.proofs.Sound.{part_held, sound}
@@ -45,6 +45,10 @@ module _ (rows : List Row) (kept : AllKept rows) where
       let (k, e) = in_slice_get ts t i in
       let (r, at, says) = said_by_row rows kept (suc k) t e in
       parts_in (suc k) r at u (subst (λ x. u ∈ parts x) (sym says) j)
+
+-- how many rows are in use
+used_is : (c : Case) → length (rows_of c) ≡ c.used
+used_is c = length-take-le c.used c.table.rows (omega (arith, c.full, c.few))
 
 -- rows that are not in use
 blank_is : (r : Row) → is_blank r ≡ true → r ≡ blank
@@ -81,7 +85,7 @@ module _ (c : Case) where
       unmarked : c.used < n → r.given ≡ false
       unmarked l =
           let (p, few) = numbered_within all n r e in
-          ap (λ x. x.given) (same_side (sym e ∙ beyond n (omega (arith, used_is c)) (omega (arith, c.full))))
+          ap (λ x. x.given) (same_Some _ _ (sym e ∙ beyond n (omega (arith, used_is c)) (omega (arith, c.full))))
 
 pub cases_keep : CasesKeep
 cases_keep c = record { room = omega (arith, used_is c, c.few); sound = case_sound c; beyond = beyond c; given_in_use = given_in_use c }
@@ -119,7 +123,7 @@ given_rows c t = (into, from)
     into i = let (k, r, at, given, is) = marked_from t (rows_of c) (terms_of c) i in (suc k, r, at, given, is)
 
     from : (n : ℕ) × (r : Row) × (row_at c n ≡ Some r) × (r.given ≡ true) × Holds c n t → t ∈ given_of c
-    from (zero, r, at, given, is) = absurd (no_side at)
+    from (zero, r, at, given, is) = absurd (none-some _ at)
     from (suc k, r, at, given, is) = marked_into t (rows_of c) (terms_of c) k r at given is
 
 pub cases_cover : CasesCover

@@ -1,5 +1,4 @@
 pub mod Numbered
-pub mod RowsInUse
 pub mod Standing
 pub mod Said
 pub mod Sound

@@ -1,8 +1,8 @@
 -- The terms of the rows that are marked.
 use Rattle.std.proofs.Common.{◌≡◌, ℕ, zero, suc, Bool, true, false, cond, List, [], ◌∷◌, Some, sym, refl, ap, ◌∙◌}
 use Rattle.std.specs.List.{slice_get}
+use Rattle.std.proofs.lemmas.Option.{none-some, same_Some}
 use Rattle.knowledge.specs.Terms.{Term, ◌∈◌, here, there}
-use Rattle.knowledge.proofs.Lists.{no_side, same_side}
 use Rattle.cases.specs.declared.row.Row.{Row}
 use Rattle.cases.specs.Said.{marked}
 
@@ -25,11 +25,11 @@ module _ (t : Term) where
       by false e later j = rest (later j)
 
   pub marked_into : (rows : List Row) (ts : List Term) (i : ℕ) (r : Row) → slice_get rows i ≡ Some r → r.given ≡ true → slice_get ts i ≡ Some t → t ∈ marked rows ts
-  marked_into [] ts i r at given is = absurd (no_side at)
-  marked_into (s ∷ rows) [] i r at given is = absurd (no_side is)
+  marked_into [] ts i r at given is = absurd (none-some _ at)
+  marked_into (s ∷ rows) [] i r at given is = absurd (none-some _ is)
   marked_into (s ∷ rows) (u ∷ us) zero r at given is =
-      let on : s.given ≡ true = ap (λ x. x.given) (same_side at) ∙ given in
-      rw on (here (sym (same_side is)))
+      let on : s.given ≡ true = ap (λ x. x.given) (same_Some _ _ at) ∙ given in
+      rw on (here (sym (same_Some _ _ is)))
   marked_into (s ∷ rows) (u ∷ us) (suc i) r at given is = by s.given (marked_into rows us i r at given is)
     where
       by : (b : Bool) → t ∈ marked rows us → t ∈ cond b (u ∷ marked rows us) (marked rows us)

@@ -2,9 +2,8 @@
 use Rattle.std.proofs.Common.{◌≡◌, ℕ, zero, suc, ◌+◌, ◌<◌, ◌≤◌, List, [], ◌∷◌, ◌++◌, map, length, take, drop, Some, sym, refl, ap, le_of_suc-le-suc, not-suc-le-zero, suc-add, zero-add, arith}
 use Rattle.std.specs.List.{slice_get}
 use Rattle.std.specs.Option.{option_map}
-use Rattle.std.proofs.lemmas.Option.{slice_get-map, slice_get_within}
+use Rattle.std.proofs.lemmas.Option.{none-some, same_Some, slice_get-map, slice_get_within}
 use Rattle.knowledge.specs.Terms.{◌∈◌, here, there}
-use Rattle.knowledge.proofs.Lists.{no_side, same_side}
 use Rattle.cases.specs.Said.{numbered}
 
 -- the front of a list keeps its entries, whatever stands behind it
@@ -39,7 +38,7 @@ numbered-map f xs (suc n) = slice_get-map f xs n
 
 -- an entry has a number within the list, and such a number has an entry
 pub numbered_within : {A : Type 0} (xs : List A) (n : ℕ) (x : A) → numbered xs n ≡ Some x → (0 < n) × (n ≤ length xs)
-numbered_within xs zero x e = absurd (no_side e)
+numbered_within xs zero x e = absurd (none-some _ e)
 numbered_within xs (suc n) x e = (omega arith, slice_get_within xs n x e)
 
 pub slice_get_there : {A : Type 0} (xs : List A) (i : ℕ) → i < length xs → (x : A) × (slice_get xs i ≡ Some x)
@@ -53,12 +52,12 @@ numbered_there xs (suc n) p l = slice_get_there xs n l
 
 -- what has a number stands in the list, and what stands in it has a number
 pub slice_get_in : {A : Type 0} (xs : List A) (i : ℕ) (x : A) → slice_get xs i ≡ Some x → x ∈ xs
-slice_get_in [] i x e = absurd (no_side e)
-slice_get_in (y ∷ ys) zero x e = here (sym (same_side e))
+slice_get_in [] i x e = absurd (none-some _ e)
+slice_get_in (y ∷ ys) zero x e = here (sym (same_Some _ _ e))
 slice_get_in (y ∷ ys) (suc i) x e = there (slice_get_in ys i x e)
 
 pub numbered_in : {A : Type 0} (xs : List A) (n : ℕ) (x : A) → numbered xs n ≡ Some x → x ∈ xs
-numbered_in xs zero x e = absurd (no_side e)
+numbered_in xs zero x e = absurd (none-some _ e)
 numbered_in xs (suc n) x e = slice_get_in xs n x e
 
 pub in_slice_get : {A : Type 0} (xs : List A) (x : A) → x ∈ xs → (i : ℕ) × (slice_get xs i ≡ Some x)

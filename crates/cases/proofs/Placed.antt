@@ -1,9 +1,9 @@
 -- Terms of a list and their numbers.
 use Rattle.std.proofs.Common.{◌≡◌, ℕ, zero, suc, ◌<◌, List, [], ◌∷◌, Some, sym, refl, ap, subst, arith}
-use native.Mathlib.Decide.{ℕ_discrete}
+use Rattle.std.proofs.lemmas.Option.{none-some}
+use Rattle.std.proofs.Math.Decide.{ℕ_discrete}
 use Rattle.knowledge.specs.Terms.{Term, term_discrete, ◌∈◌, here, there}
 use Rattle.knowledge.specs.Theorems.{Once}
-use Rattle.knowledge.proofs.Lists.{no_side}
 use Rattle.cases.specs.Said.{numbered, onward, placed, place_of}
 use Rattle.cases.proofs.Numbered.{numbered_in, in_slice_get}
 
@@ -17,8 +17,8 @@ once (t ∷ ts) one_number =
     ((λ i. let (k, e) = in_slice_get ts t i in let z = one_number 1 (suc (suc k)) t refl e in omega arith), once ts rest)
   where
     rest : OneNumber ts
-    rest zero m u e f = absurd (no_side e)
-    rest (suc n) zero u e f = absurd (no_side f)
+    rest zero m u e f = absurd (none-some _ e)
+    rest (suc n) zero u e f = absurd (none-some _ f)
     rest (suc n) (suc m) u e f = let s = one_number (suc (suc n)) (suc (suc m)) u e f in omega arith
 
 -- the place of a term has that term, and every term of the list has a place

@@ -3,8 +3,8 @@ use Rattle.std.proofs.Common.{◌≡◌, ℕ, zero, suc, ◌+◌, ◌<◌, ◌�
 use Rattle.std.specs.List.{slice_get}
 use Rattle.std.specs.Option.{option_map}
 use Rattle.std.proofs.lemmas.Bool.Decides.{nat_tests}
+use Rattle.std.proofs.lemmas.Option.{none-some, same_Some}
 use Rattle.knowledge.specs.Terms.{Term, atom, one, two}
-use Rattle.knowledge.proofs.Lists.{no_side, same_side}
 use Rattle.cases.specs.declared.row.Row.{Row}
 use Rattle.cases.specs.Parts.{part_count}
 use Rattle.cases.specs.Said.{numbered, term_among, said_by, said, terms_after, terms}
@@ -63,8 +63,8 @@ numbered_among ts n p l = let (t, e) = numbered_there ts n p l in e ∙ ap (λ o
 
 -- the value behind a function of an option
 pub mapped_back : {A B : Type 0} (f : A → B) (o : Option A) (y : B) → option_map f o ≡ Some y → (x : A) × (o ≡ Some x) × (f x ≡ y)
-mapped_back f None y e = absurd (no_side e)
-mapped_back f (Some x) y e = (x, refl, same_side e)
+mapped_back f None y e = absurd (none-some _ e)
+mapped_back f (Some x) y e = (x, refl, same_Some _ _ e)
 
 -- every row keeps what it should
 abbrev pub AllKept : List Row → Type 0

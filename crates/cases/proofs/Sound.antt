@@ -4,14 +4,13 @@ use Rattle.std.specs.List.{slice_get}
 use Rattle.std.proofs.lemmas.List.{length-take-le}
 use Rattle.std.proofs.lemmas.Bool.{cases_order, cases_Bool}
 use Rattle.knowledge.specs.Terms.{Term, atom, one, two}
-use Rattle.knowledge.proofs.Lists.{no_side}
 use Rattle.cases.specs.declared.row.Row.{Row}
 use Rattle.cases.specs.Parts.{part_count}
 use Rattle.cases.specs.Rows.{well_formed, alike, standing}
 use Rattle.cases.specs.Said.{numbered, term_among, said_by, said, terms}
 use Rattle.cases.specs.Theorems.{Before, Kept, Sound, SoundRows}
 use Rattle.cases.proofs.Numbered.{slice_get-take, numbered_within}
-use Rattle.std.proofs.lemmas.Option.{slice_get_within}
+use Rattle.std.proofs.lemmas.Option.{none-some, slice_get_within}
 use Rattle.cases.proofs.Standing.{Fits, fits_at, stands_from, new_apart, new_from, Alike, alike_is, is_alike, kept_is, is_kept}
 use Rattle.cases.proofs.Said.{by_parts, AllKept, length-terms, numbered_among, row_says, said_by_row}
 
@@ -88,7 +87,7 @@ module _ (rows : List Row) where
     fits i r e = fits_at [] rows stands i r e
 
     pub all_kept : AllKept rows
-    all_kept zero r e = absurd (no_side e)
+    all_kept zero r e = absurd (none-some _ e)
     all_kept (suc i) r e =
         let l = slice_get_within rows i r e in
         let front : length (take i rows) ≡ i = length-take-le i rows (omega arith) in
@@ -98,8 +97,8 @@ module _ (rows : List Row) where
     earlier i j r s e f l h = true≢false (sym (is_alike r s h) ∙ new_apart r (take i rows) (fits i r e).1 j s (slice_get-take rows i j l ∙ f))
 
     all_apart : Apart
-    all_apart zero m r s e f h = absurd (no_side e)
-    all_apart (suc i) zero r s e f h = absurd (no_side f)
+    all_apart zero m r s e f h = absurd (none-some _ e)
+    all_apart (suc i) zero r s e f h = absurd (none-some _ f)
     all_apart (suc i) (suc j) r s e f h =
         elim (cases_order i j) [
           | inl same ↦ ap suc same

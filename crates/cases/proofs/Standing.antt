@@ -2,7 +2,7 @@
 use Rattle.std.proofs.Common.{◌≡◌, ℕ, zero, suc, ◌≤◌, true, false, not, ◌&&◌, eqb, leb, List, [], ◌∷◌, ◌++◌, length, take, Some, sym, refl, subst, append_assoc, append-nil, arith}
 use Rattle.std.specs.List.{slice_get}
 use Rattle.std.proofs.lemmas.Bool.{and_parts, and_from, not-true, not_from_false, leb-true, eqb-true, le-leb, eq-eqb}
-use Rattle.knowledge.proofs.Lists.{no_side, same_side}
+use Rattle.std.proofs.lemmas.Option.{none-some, same_Some}
 use Rattle.cases.specs.declared.row.Row.{Row}
 use Rattle.cases.specs.Parts.{part_count}
 use Rattle.cases.specs.Rows.{names, parted, well_formed, alike, new, standing_after}
@@ -13,10 +13,10 @@ abbrev pub Fits : List Row → Row → Type 0
 Fits before r = (well_formed (length before) r ≡ true) × (new r before ≡ true)
 
 pub fits_at : (before rest : List Row) → standing_after before rest ≡ true → (i : ℕ) (r : Row) → slice_get rest i ≡ Some r → Fits (before ++ take i rest) r
-fits_at before [] s i r e = absurd (no_side e)
+fits_at before [] s i r e = absurd (none-some _ e)
 fits_at before (x ∷ rest) s zero r e =
     let first = and_parts _ _ (and_parts _ _ s).0 in
-    subst (λ y. Fits (before ++ []) y) (same_side e) (subst (λ l. Fits l x) (sym (append-nil before)) first)
+    subst (λ y. Fits (before ++ []) y) (same_Some _ _ e) (subst (λ l. Fits l x) (sym (append-nil before)) first)
 fits_at before (x ∷ rest) s (suc i) r e =
     subst (λ l. Fits l r) (append_assoc before (x ∷ []) (take i rest)) (fits_at (before ++ (x ∷ [])) rest (and_parts _ _ s).1 i r e)
 
@@ -29,8 +29,8 @@ stands_from before (x ∷ rest) fits =
 
 -- a new row is like none of the others
 pub new_apart : (r : Row) (xs : List Row) → new r xs ≡ true → (j : ℕ) (s : Row) → slice_get xs j ≡ Some s → alike r s ≡ false
-new_apart r [] h j s e = absurd (no_side e)
-new_apart r (x ∷ xs) h zero s e = subst (λ y. alike r y ≡ false) (same_side e) (not-true (alike r x) (and_parts _ _ h).0)
+new_apart r [] h j s e = absurd (none-some _ e)
+new_apart r (x ∷ xs) h zero s e = subst (λ y. alike r y ≡ false) (same_Some _ _ e) (not-true (alike r x) (and_parts _ _ h).0)
 new_apart r (x ∷ xs) h (suc j) s e = new_apart r xs (and_parts (not (alike r x)) _ h).1 j s e
 
 pub new_from : (r : Row) (xs : List Row) → ((j : ℕ) (s : Row) → slice_get xs j ≡ Some s → alike r s ≡ false) → new r xs ≡ true

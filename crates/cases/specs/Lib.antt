@@ -2,6 +2,5 @@ pub mod Parts
 pub mod Rows
 pub mod Said
 pub mod Case
-pub mod Places
 pub mod Theorems
 pub mod Example

@@ -11,7 +11,8 @@ use super::table::Table;
 pub const CAPACITY: usize = 1024;
 
 /// A table of rows, of which the first `used` are in use.
-#[derive(Drop)]
+// Every row stands blank from the start, and opening asks for no memory: a `Vec` could fail, an `ArrayVec` holds no blank rows.
+#[derive(Debug, Drop, PartialEq, Eq)]
 pub struct Case {
     table: Table<Row, CAPACITY>,
     used: u16,

@@ -1,11 +1,11 @@
 -- What can be decided of lists of terms, and the rounds within a list worked out as lists.
-use native.Mathlib.Decide.{ℕ_discrete}
+use Rattle.std.proofs.Math.Decide.{ℕ_discrete}
 use Rattle.std.proofs.Common.{◌≡◌, true, ◌⊎◌, List, [], ◌∷◌, Some, None, Option, sym, refl, subst, inl, inr}
-use mathlib.Core.Bool.{Bool-discrete}
+use Rattle.std.proofs.Math.Bool.{Bool-discrete}
+use Rattle.std.proofs.lemmas.Option.{none-some, same_Some}
 use Rattle.knowledge.specs.Terms.{Term, term_discrete, parts, ◌∈◌, here, there}
 use Rattle.knowledge.specs.Meanings.{Taking, Meaning}
 use Rattle.knowledge.specs.Rounds.{Built, Taken, Leads}
-use Rattle.knowledge.proofs.Lists.{no_side, same_side}
 
 abbrev pub same? : (t u : Term) → Dec (t ≡ u)
 same? = term_discrete ℕ_discrete
@@ -55,8 +55,8 @@ in? t (u ∷ us) = by_iff (elim [ inl e ↦ here e | inr i ↦ there i ]) (elim 
 
 -- whether a side, if there is one, is known
 abbrev pub side? : (side : Option Term) (known : List Term) → Dec ((s : Term) → side ≡ Some s → s ∈ known)
-side? None known = yes (λ s e. absurd (no_side e))
-side? (Some u) known = by_iff (λ i s e. subst (λ x. x ∈ known) (same_side e) i) (λ all. all u refl) (in? u known)
+side? None known = yes (λ s e. absurd (none-some _ e))
+side? (Some u) known = by_iff (λ i s e. subst (λ x. x ∈ known) (same_Some _ _ e) i) (λ all. all u refl) (in? u known)
 
 -- whether one step leads from the terms of a list to a term
 module _ (m : Meaning) (known : List Term) (t : Term) where

@@ -1,6 +1,6 @@
 -- The examples, each by working out the verdict.
 use Rattle.std.proofs.Common.{ℕ, List, refl}
-use native.Mathlib.Decide.{ℕ_discrete}
+use Rattle.std.proofs.Math.Decide.{ℕ_discrete}
 use Rattle.knowledge.specs.Terms.{Term}
 use Rattle.knowledge.specs.Kinds.{standard}
 use Rattle.knowledge.specs.Examples.{Denied, Granted, Examples}

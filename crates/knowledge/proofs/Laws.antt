@@ -1,10 +1,10 @@
 -- The three theories keep the laws, and so does a pile of two that do.
 use Rattle.std.proofs.Common.{◌≡◌, ℕ, ◌≤◌, Bool, true, false, cond, ◌||◌, ◌⊎◌, ◌↔◌, List, [], ◌∷◌, length, Some, None, Option, sym, refl, ◌∙◌, subst, inl, inr, true≢false, arith}
+use Rattle.std.proofs.lemmas.Option.{none-some, same_Some}
 use Rattle.knowledge.specs.Terms.{Term, atom, one, two, kind, parts, ◌∈◌, here, there, Inside, part, deeper}
 use Rattle.knowledge.specs.Meanings.{Taking, Meaning, NoStep, Lawful, pile}
 use Rattle.knowledge.specs.Kinds.{Kind, pair, hash, cipher, public_key, sealed, signature, check_value, reply, is, one_of, buildable, takes, plain, opened, public_keys, replies, standard}
 use Rattle.knowledge.specs.Theorems.{LawfulTheories, Piled}
-use Rattle.knowledge.proofs.Lists.{no_side, same_side}
 
 -- a test picks what it says
 on : {A : Type 0} (b : Bool) (x y : A) → b ≡ true → cond b x y ≡ x
@@ -52,8 +52,8 @@ each_result t (x ∷ xs) k (first, rest) (here e) = subst (λ y. y.result ∈ pa
 each_result t (x ∷ xs) k (first, rest) (there i) = each_result t xs k rest i
 
 side_inside : (side : Option Term) (t s : Term) → SideInside side t → side ≡ Some s → Inside s t
-side_inside None t s h e = absurd (no_side e)
-side_inside (Some u) t s h e = subst (λ x. Inside x t) (same_side e) h
+side_inside None t s h e = absurd (none-some _ e)
+side_inside (Some u) t s h e = subst (λ x. Inside x t) (same_Some _ _ e) h
 
 each_side : (t : Term) (ks : List Taking) (k : Taking) (s : Term) → Each t ks → k ∈ ks → k.side ≡ Some s → Inside s t
 each_side t [] k s each i e = elim i [ ]

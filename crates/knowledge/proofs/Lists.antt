@@ -1,6 +1,5 @@
 -- Lists: what stands where in lists put together.
-use Rattle.std.proofs.Common.{◌≡◌, ℕ, ◌⊎◌, List, [], ◌∷◌, ◌++◌, Some, None, refl, ap, inl, inr, ⊎_elim, arith}
-use mathlib.Core.List.{nil≢cons, head-eq_of_cons-eq, tail-eq_of_cons-eq}
+use Rattle.std.proofs.Common.{◌≡◌, ◌⊎◌, List, [], ◌∷◌, ◌++◌, get_or, drop, refl, ap, inl, inr, ⊎_elim}
 use Rattle.knowledge.specs.Terms.{◌∈◌, here, there}
 
 pub in_left : {A : Type 0} {x : A} (xs ys : List A) → x ∈ xs → x ∈ (xs ++ ys)
@@ -25,6 +24,13 @@ pub only_one : {A : Type 0} {x y : A} → x ∈ (y ∷ []) → x ≡ y
 only_one (here e) = e
 only_one (there i) = elim i [ ]
 
+-- two lists with a first entry are told from it and from the rest
+head_same : {A : Type 0} {x y : A} {xs ys : List A} → x ∷ xs ≡ y ∷ ys → x ≡ y
+head_same {x = x} e = ap (λ l. get_or l 0 x) e
+
+tail_same : {A : Type 0} {x y : A} {xs ys : List A} → x ∷ xs ≡ y ∷ ys → xs ≡ ys
+tail_same e = ap (drop 1) e
+
 -- a cut of two lists put together lies in the first, or in the second
 abbrev pub Cut : {A : Type 0} → List A → List A → List A → A → List A → Type 0
 Cut {A} xs ys earlier t later = ((rest : List A) × (xs ≡ earlier ++ (t ∷ rest)))
@@ -32,24 +38,18 @@ Cut {A} xs ys earlier t later = ((rest : List A) × (xs ≡ earlier ++ (t ∷ re
 
 pub cut : {A : Type 0} (xs ys earlier : List A) (t : A) (later : List A) → xs ++ ys ≡ earlier ++ (t ∷ later) → Cut xs ys earlier t later
 cut [] ys earlier t later e = inr (earlier, refl, e)
-cut (x ∷ xs) ys [] t later e = inl (xs, ap (λ h. h ∷ xs) (head-eq_of_cons-eq e))
-cut (x ∷ xs) ys (y ∷ earlier) t later e = onward (cut xs ys earlier t later (tail-eq_of_cons-eq e))
+cut (x ∷ xs) ys [] t later e = inl (xs, ap (λ h. h ∷ xs) (head_same e))
+cut (x ∷ xs) ys (y ∷ earlier) t later e = onward (cut xs ys earlier t later (tail_same e))
   where
     onward : Cut xs ys earlier t later → Cut (x ∷ xs) ys (y ∷ earlier) t later
-    onward (inl (rest, f)) = inl (rest, let h = head-eq_of_cons-eq e in cc)
-    onward (inr (front, f, f')) = inr (front, let h = head-eq_of_cons-eq e in cc, f')
+    onward (inl (rest, f)) = inl (rest, let h = head_same e in cc)
+    onward (inr (front, f, f')) = inr (front, let h = head_same e in cc, f')
 
 pub cut_none : {A : Type 0} (earlier : List A) (t : A) (later : List A) → [] ≡ earlier ++ (t ∷ later) → ⊥
-cut_none [] t later e = nil≢cons e
-cut_none (x ∷ earlier) t later e = nil≢cons e
+cut_none [] t later e = absurd cc
+cut_none (x ∷ earlier) t later e = absurd cc
 
 -- a list of one entry is cut at that entry
 pub cut_one : {A : Type 0} (x : A) (earlier : List A) (t : A) (later : List A) → x ∷ [] ≡ earlier ++ (t ∷ later) → x ≡ t
-cut_one x [] t later e = head-eq_of_cons-eq e
-cut_one x (y ∷ earlier) t later e = absurd (cut_none earlier t later (tail-eq_of_cons-eq e))
-
-pub no_side : {A : Type 0} {x : A} → None ≡ Some x → ⊥
-no_side e = let z : ◌≡◌ {A = ℕ} 0 1 = cc in omega arith
-
-pub same_side : {A : Type 0} {x y : A} → Some x ≡ Some y → x ≡ y
-same_side e = cc
+cut_one x [] t later e = head_same e
+cut_one x (y ∷ earlier) t later e = absurd (cut_none earlier t later (tail_same e))

@@ -1,11 +1,12 @@
 -- What a run reaches, a round holds, and the other way round.
 use Rattle.std.proofs.Common.{◌≡◌, ℕ, zero, suc, ◌⊎◌, List, [], ◌∷◌, ◌++◌, Some, None, Option, sym, refl, ap, ◌∙◌, subst, inl, inr, append_assoc, append-nil}
+use Rattle.std.proofs.lemmas.Option.{none-some, same_Some}
 use Rattle.knowledge.specs.Terms.{Term, parts, ◌∈◌, here, there}
 use Rattle.knowledge.specs.Meanings.{Meaning}
 use Rattle.knowledge.specs.Rounds.{Leads, everywhere, Round}
 use Rattle.knowledge.specs.Runs.{Run, Reachable}
 use Rattle.knowledge.specs.Theorems.{RunsAreRounds}
-use Rattle.knowledge.proofs.Lists.{in_left, in_right, in_either, only_one, Cut, cut, cut_one, cut_none, no_side, same_side}
+use Rattle.knowledge.proofs.Lists.{in_left, in_right, in_either, only_one, Cut, cut, cut_one, cut_none}
 use Rattle.knowledge.proofs.Steps.{built_again, taken_again, leads_more, given_stays}
 
 -- what a taking starts from
@@ -18,8 +19,8 @@ main_too main None = here refl
 main_too main (Some u) = here refl
 
 side_too : (main : Term) (side : Option Term) (s : Term) → side ≡ Some s → s ∈ premises main side
-side_too main None s e = absurd (no_side e)
-side_too main (Some u) s e = there (here (sym (same_side e)))
+side_too main None s e = absurd (none-some _ e)
+side_too main (Some u) s e = there (here (sym (same_Some _ _ e)))
 
 all_premises : (P : Term → Type 0) (main : Term) (side : Option Term) → P main → ((s : Term) → side ≡ Some s → P s)
     → (p : Term) → p ∈ premises main side → P p

@@ -1,6 +1,6 @@
 -- Steps and rounds keep what was known, and more known terms lead no less far.
 use Rattle.std.proofs.Common.{◌≡◌, ℕ, zero, suc, ◌≤◌, List, Some, inl, inr}
-use native.Mathlib.Decide.{le_ind}
+use Rattle.std.proofs.Math.Decide.{le_ind}
 use Rattle.knowledge.specs.Terms.{Term, parts, ◌∈◌}
 use Rattle.knowledge.specs.Meanings.{Meaning}
 use Rattle.knowledge.specs.Rounds.{Built, Taken, Leads, Scope, Allowed, Round}

@@ -1,6 +1,6 @@
 -- Where a round adds no term of the list, no later round does.
 use Rattle.std.proofs.Common.{ℕ, suc, ◌≤◌, List, inl, inr, arith}
-use native.Mathlib.Decide.{le_ind}
+use Rattle.std.proofs.Math.Decide.{le_ind}
 use Rattle.knowledge.specs.Terms.{Term}
 use Rattle.knowledge.specs.Meanings.{Meaning}
 use Rattle.knowledge.specs.Rounds.{within, Round}

@@ -1,6 +1,6 @@
 -- The table of kinds, read off the definitions.
 use Rattle.std.proofs.Common.{◌≡◌, ℕ, Bool, true, false, cond, ◌||◌, ◌↔◌, List, [], ◌∷◌, map, sym, refl, ap, subst, eq-eqb, ne_eqb, eqb-true}
-use mathlib.Core.Bool.{false≢true}
+use Rattle.std.proofs.lemmas.Bool.{false≢true}
 use Rattle.knowledge.specs.Terms.{Term, atom, one, two, ◌∈◌, here, there}
 use Rattle.knowledge.specs.Kinds.{Kind, pair, hash, cipher, public_key, sealed, signature, check_value, reply, number, term₁, is, one_of, opened, public_keys, replies}
 use Rattle.knowledge.specs.Table.{Line, Table}

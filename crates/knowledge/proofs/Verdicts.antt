@@ -1,6 +1,6 @@
 -- For a theory that keeps the laws it can be worked out what is reachable, and in which round.
 use Rattle.std.proofs.Common.{◌≡◌, ℕ, zero, suc, ◌<◌, ◌⊎◌, ◌↔◌, List, [], ◌∷◌, ◌++◌, length, refl, subst, inl, inr, arith}
-use native.Mathlib.Decide.{dec_lt}
+use Rattle.std.proofs.Math.Decide.{dec_lt}
 use Rattle.knowledge.specs.Terms.{Term, atom, one, two, parts, ◌∈◌, here, there}
 use Rattle.knowledge.specs.Meanings.{Meaning, Lawful}
 use Rattle.knowledge.specs.Rounds.{everywhere, within, Round, Least, SmallestRound}

@@ -2,9 +2,9 @@
 use Rattle.std.proofs.Common.{◌≡◌, ℕ, ◌≤◌, length, Some, None, Option, sym, refl, ap, ◌∙◌, subst, ap₂, arith}
 use Rattle.std.specs.Option.{option_map}
 use Rattle.std.proofs.lemmas.List.{length-map}
+use Rattle.std.proofs.lemmas.Option.{same_Some}
 use Rattle.knowledge.specs.Terms.{Term, ◌∈◌}
 use Rattle.knowledge.specs.Meanings.{Taking, Meaning, Lawful}
-use Rattle.knowledge.proofs.Lists.{same_side}
 use Rattle.knowledge.proofs.Local.{inside_too}
 use Rattle.cases.specs.declared.case.Case.{Case}
 use Rattle.cases.specs.Said.{numbered}
@@ -60,7 +60,7 @@ module _ (m : Meaning) (lawful : Lawful m) (c : Case) (row : ℕ) where
           → (side result : ℕ) → numbered (taking_rows m c row) number ≡ Some (side, result) → InRows c k side result
       into number k e side result f =
           let i = numbered_in (takings_at m c row) number k e in
-          let same : by_rows c k ≡ (side, result) = same_side (sym (rows_at number k e) ∙ f) in
+          let same : by_rows c k ≡ (side, result) = same_Some _ _ (sym (rows_at number k e) ∙ f) in
           record {
             side_in = subst (SideIn c k.side) (ap (λ p. p.0) same) (side_held k i k.side refl);
             result_in = subst (λ n. Holds c n k.result) (ap (λ p. p.1) same) (result_held k i);

@@ -1,5 +1,5 @@
+pub mod Kinds
 pub mod Answers
 pub mod Theorems
 pub mod Example
 pub mod Listed
-pub mod ByRow

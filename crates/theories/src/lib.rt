@@ -1,7 +1,8 @@
 //! Theories: what can be built and taken, asked of the rows of a case.
 #![tactic(auto)]
 
-mod kinds;
+mod by_row;
+mod kind;
 pub mod pile;
 pub mod plain;
 pub mod public_key;

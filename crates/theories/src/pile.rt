@@ -8,7 +8,7 @@ use super::theory::Theory;
 use cases::Case;
 
 /// An upper theory over a lower one: kinds that the upper owns get its steps, all others the lower's.
-#[derive(Drop)]
+#[derive(Clone, Debug, Drop, PartialEq, Eq, Hash)]
 pub struct Pile<U, L> {
     pub upper: U,
     pub lower: L,
@@ -19,13 +19,11 @@ impl<U: Theory, L: Theory> Pile<U, L> {
     fn is_uppers(&self, case: &Case, row: u16) -> bool
         ensures { result ≡ owns_at (U.Theory.meaning self.now.upper) case.now row }
     {
-        match case.kind(row) {
-            Some(kind) => self.upper.owns(kind),
-            None => false,
-        }
+        case.kind(row).is_some_and(|kind| self.upper.owns(kind))
     }
 }
 
+// Two arms for each question: tried, and a `&dyn Theory` of one of the two is refused at a type parameter.
 impl<U: Theory, L: Theory> Theory for Pile<U, L> {
     ghost meaning = { λ p. pile (U.Theory.meaning p.upper) (L.Theory.meaning p.lower) };
 

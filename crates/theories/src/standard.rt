@@ -29,6 +29,7 @@ pub fn theory() -> Standard {
 }
 
 /// Whether one of the three owns a kind.
+// Any number may be asked about, as in `Theory`.
 pub fn owns(kind: u8) -> bool
     ensures { result ≡ standard.owns kind }
 {

@@ -4,7 +4,8 @@ ghost use Rattle.cases.specs.Said.{numbered};
 ghost use Rattle.theories.specs.Listed.{listed};
 
 /// At most two takings in their order, each by the row of its side, or 0, and the row of its result.
-#[derive(Clone, Copy)]
+// An enum and no `ArrayVec<_, 2>`: here a match arm is the list, and there it would be pushed together.
+#[derive(Clone, Copy, Debug, PartialEq, Eq, Hash)]
 pub(crate) enum Takings {
     Zero,
     One((u16, u16)),
@@ -12,6 +13,7 @@ pub(crate) enum Takings {
 }
 
 impl Takings {
+    /// How many there are.
     pub(crate) fn count(self) -> usize
         ensures { result ≡ length (listed self) }
     {
@@ -22,13 +24,12 @@ impl Takings {
         }
     }
 
-    // The taking with a number, counted from 1.
+    /// The taking with a number, counted from 1.
     pub(crate) fn get(self, number: usize) -> Option<(u16, u16)>
         ensures { result ≡ numbered (listed self) number }
     {
         match (self, number) {
-            (Takings::One(first), 1) => Some(first),
-            (Takings::Two(first, _), 1) => Some(first),
+            (Takings::One(first) | Takings::Two(first, _), 1) => Some(first),
             (Takings::Two(_, second), 2) => Some(second),
             _ => None,
         }

@@ -25,8 +25,8 @@ mod tests {
     #[test]
     fn kinds_have_their_parts(rt: HostRuntime) {
         let counts = [0, 2, 1, 2, 1, 2, 2, 2, 2, 1, 1, 1, 2, 2, 2, 2];
-        for (kind, count) in counts.iter().enumerate() {
-            assert_eq!(rt; parts_of(kind as u8), Some(*count));
+        for (kind, count) in (0..16).zip(counts) {
+            assert_eq!(rt; parts_of(kind), Some(count));
         }
         assert_eq!(rt; parts_of(16), None);
         assert_eq!(rt; parts_of(255), None);

@@ -1,7 +1,7 @@
 -- One text has one answer: lines have no newline inside, so a text is told apart into lines in one way. Assumes nothing.
-use Rattle.std.proofs.Common.{◌≡◌, ℕ, zero, suc, ◌+◌, ◌-◌, ◌/◌, ◌<◌, ◌≤◌, List, [], ◌∷◌, ◌++◌, length, get_or, drop, Ok, Err, Result, sym, refl, ap, ◌∙◌, subst, append_assoc, append-nil, arith, length-append}
-use mathlib.Core.HLevel.{is_prop→PathP}
-use native.Mathlib.Bridge.{le_prop}
+use Rattle.std.proofs.Common.{◌≡◌, ℕ, zero, suc, ◌+◌, ◌-◌, ◌/◌, ◌<◌, ◌≤◌, List, [], ◌∷◌, ◌++◌, length, get_or, drop, Ok, Err, Result, sym, refl, ap, ◌∙◌, subst, inl, inr, append_assoc, append-nil, arith, length-append}
+use Rattle.std.proofs.Math.Path.{to_path_p}
+use Rattle.std.proofs.Math.Bridge.{le_prop}
 use Rattle.std.specs.List.{AllByRecursion}
 use Rattle.std.proofs.ByRecursion.{All-from_get_or, All-append, All-push}
 use Rattle.std.proofs.lemmas.List.{get_or_at}
@@ -59,9 +59,9 @@ inner_one t h = All-from_get_or Inner t 0 h
 -- records whose text begins a text of records are the first of those, and the rest says the others
 rest_says : (qs rs : List Record) (rest : List ℕ) → text_of qs ++ rest ≡ text_of rs → (ps : List Record) × (rs ≡ qs ++ ps) × (rest ≡ text_of ps)
 rest_says [] rs rest e = (rs, refl, e)
-rest_says (q ∷ qs) [] rest e = let z : ◌≡◌ {A = ℕ} 0 1 = cc in absurd (omega arith)
+rest_says (q ∷ qs) [] rest e = absurd cc
 rest_says (q ∷ qs) (r ∷ rs) rest e =
-    let parts = cut_same (line_of q) (line_of r) (text_of qs ++ rest) (text_of rs) (inner_line q) (inner_line r) (sym (append_assoc (line_of q) (10 ∷ text_of qs) rest) ∙ e) in
+    let parts = cut_same (line_of q) (line_of r) (text_of qs ++ rest) (text_of rs) (inner_line q) (inner_line r) (simp append_assoc at e) in
     let more = rest_says qs rs rest parts.1 in
     (more.0, (λ i. sym (line_same q r parts.0) i ∷ more.1 i), more.2)
 
@@ -87,13 +87,12 @@ good_text rs t n f is h =
     good_rest says.0 h.1.1 f says.2 h.1.4 h.1.5
 
 never_refused : (rs : List Record) (t : List ℕ) (n : ℕ) (f : TextFault) → length t ≤ limit → t ≡ text_of rs → Refused t n f → ⊥
-never_refused rs t n TooLong short is h = omega (arith, h.0)
-never_refused rs t n NoNewline short is h = good_text rs t n NoNewline is h
-never_refused rs t n (Line f) short is h = good_text rs t n (Line f) is h
+never_refused rs t n f short is (inl long) = omega (arith, long.0)
+never_refused rs t n f short is (inr h) = good_text rs t n f is h
 
 no_records : (ps : List Record) → [] ≡ text_of ps → ps ≡ []
 no_records [] e = refl
-no_records (p ∷ ps) e = let z : ◌≡◌ {A = ℕ} 0 1 = cc in absurd (omega arith)
+no_records (p ∷ ps) e = absurd cc
 
 -- records are told from their text
 text_same : (qs rs : List Record) → text_of qs ≡ text_of rs → qs ≡ rs
@@ -116,10 +115,10 @@ fault_same t (Line f) (Line g) h k =
 
 same_line : (rs qs : List Record) (x y : List ℕ) (f g : TextFault) → text_of rs ++ x ≡ text_of qs ++ y → FirstFault x f → FirstFault y g → (length rs ≡ length qs) × (f ≡ g)
 same_line [] [] x y f g e h k = (refl, fault_same y f g (subst (λ l. FirstFault l f) e h) k)
-same_line [] (q ∷ qs) x y f g e h k = absurd (good_first q (text_of qs ++ y) x f (e ∙ append_assoc (line_of q) (10 ∷ text_of qs) y) h)
-same_line (r ∷ rs) [] x y f g e h k = absurd (good_first r (text_of rs ++ x) y g (sym e ∙ append_assoc (line_of r) (10 ∷ text_of rs) x) k)
+same_line [] (q ∷ qs) x y f g e h k = absurd (good_first q (text_of qs ++ y) x f (simp append_assoc at e) h)
+same_line (r ∷ rs) [] x y f g e h k = absurd (good_first r (text_of rs ++ x) y g (sym (simp append_assoc at e)) k)
 same_line (r ∷ rs) (q ∷ qs) x y f g e h k =
-    let tails = cut_same (line_of r) (line_of q) (text_of rs ++ x) (text_of qs ++ y) (inner_line r) (inner_line q) (sym (append_assoc (line_of r) (10 ∷ text_of rs) x) ∙ e ∙ append_assoc (line_of q) (10 ∷ text_of qs) y) in
+    let tails = cut_same (line_of r) (line_of q) (text_of rs ++ x) (text_of qs ++ y) (inner_line r) (inner_line q) (simp append_assoc at e) in
     let rest = same_line rs qs x y f g tails.1 h k in
     (ap suc rest.0, rest.1)
 
@@ -129,23 +128,18 @@ in_line_same t n m f g h k =
     (h.1.3 ∙ ap (λ (j : ℕ). j + 1) same.0 ∙ sym k.1.3, same.1)
 
 refused_same : (t : List ℕ) (n m : ℕ) (f g : TextFault) → Refused t n f → Refused t m g → (n ≡ m) × (f ≡ g)
-refused_same t n m TooLong TooLong h k = (h.1 ∙ sym k.1, refl)
-refused_same t n m TooLong NoNewline h k = absurd (omega (arith, h.0, k.0))
-refused_same t n m TooLong (Line g) h k = absurd (omega (arith, h.0, k.0))
-refused_same t n m NoNewline TooLong h k = absurd (omega (arith, h.0, k.0))
-refused_same t n m NoNewline NoNewline h k = in_line_same t n m NoNewline NoNewline h k
-refused_same t n m NoNewline (Line g) h k = in_line_same t n m NoNewline (Line g) h k
-refused_same t n m (Line f) TooLong h k = absurd (omega (arith, h.0, k.0))
-refused_same t n m (Line f) NoNewline h k = in_line_same t n m (Line f) NoNewline h k
-refused_same t n m (Line f) (Line g) h k = in_line_same t n m (Line f) (Line g) h k
+refused_same t n m f g (inl h) (inl k) = (h.1 ∙ sym k.1, h.2 ∙ sym k.2)
+refused_same t n m f g (inl h) (inr k) = absurd (omega (arith, h.0, k.0))
+refused_same t n m f g (inr h) (inl k) = absurd (omega (arith, h.0, k.0))
+refused_same t n m f g (inr h) (inr k) = in_line_same t n m f g h k
 
 refusal_same : (d e : Refusal) → d.line ≡ e.line → d.fault ≡ e.fault → d ≡ e
 refusal_same d e p q =
     λ i. record {
       line = p i;
       fault = q i;
-      low = is_prop→PathP (λ k. p k < 100000) (λ k. le_prop) d.low e.low i;
-      narrow = is_prop→PathP (λ k. (report_of (q k)).column < 100) (λ k. le_prop) d.narrow e.narrow i;
+      low = to_path_p (λ k. p k < 100000) {a = d.low} (le_prop _ e.low) i;
+      narrow = to_path_p (λ k. (report_of (q k)).column < 100) {a = d.narrow} (le_prop _ e.narrow) i;
     }
 
 summary_same : (rs : List Record) (r s : Summary) → Holds rs r → Holds rs s → r ≡ s
@@ -159,15 +153,15 @@ summary_same rs r s h k =
       given = b i;
       asks = c i;
       shows = d i;
-      few = is_prop→PathP (λ j. a j + b j + c j + d j < 100000) (λ j. le_prop) r.few s.few i;
+      few = to_path_p (λ j. a j + b j + c j + d j < 100000) {a = r.few} (le_prop _ s.few) i;
     }
 
-pub checked_same : (t : List ℕ) (r q : Result Summary Refusal) → Checked t r → Checked t q → r ≡ q
-checked_same t (Ok r) (Ok q) h k =
+pub checked_only : (t : List ℕ) (r : Result Summary Refusal) → Checked t r → (q : Result Summary Refusal) → Checked t q → r ≡ q
+checked_only t (Ok r) h (Ok q) k =
     let same = text_same h.1.0 k.1.0 (sym h.1.1 ∙ k.1.1) in
     ap Ok (summary_same k.1.0 r q (subst (λ rs. Holds rs r) same h.1.2) k.1.2)
-checked_same t (Ok r) (Err f) h k = absurd (never_refused h.1.0 t f.line f.fault h.0 h.1.1 k)
-checked_same t (Err e) (Ok q) h k = absurd (never_refused k.1.0 t e.line e.fault k.0 k.1.1 h)
-checked_same t (Err e) (Err f) h k =
+checked_only t (Ok r) h (Err f) k = absurd (never_refused h.1.0 t f.line f.fault h.0 h.1.1 k)
+checked_only t (Err e) h (Ok q) k = absurd (never_refused k.1.0 t e.line e.fault k.0 k.1.1 h)
+checked_only t (Err e) h (Err f) k =
     let same = refused_same t e.line f.line e.fault f.fault h k in
     ap Err (refusal_same e f same.0 same.1)

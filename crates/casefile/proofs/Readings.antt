@@ -1,10 +1,9 @@
 -- What reading a line answers, from how it is taken apart. Assumes nothing.
-use Rattle.std.proofs.Common.{◌≡◌, ℕ, ◌+◌, ◌-◌, ◌^◌, ◌<◌, min, Bool, true, false, cond, not, T, eqb, List, [], ◌∷◌, ◌++◌, map, length, get_or, take, drop, IsErrAnd, Ok, Err, Result, sym, refl, ap, ◌∙◌, subst, inl, inr, arith, length-drop, take-append-drop, MatchResult}
-use mathlib.Core.HLevel.{is_prop→PathP}
-use native.Mathlib.Bridge.{le_prop}
+use Rattle.std.proofs.Common.{◌≡◌, ℕ, ◌+◌, ◌-◌, ◌^◌, ◌<◌, ◌⊎◌, min, cond, eqb, List, [], ◌∷◌, map, length, get_or, take, drop, Ok, Err, Result, sym, refl, ap, ◌∙◌, subst, inl, inr, arith, length-drop, take-append-drop}
+use Rattle.std.proofs.Math.Path.{to_path_p}
+use Rattle.std.proofs.Math.Bridge.{le_prop}
 use Rattle.std.specs.List.{AllByRecursion}
 use Rattle.std.proofs.lemmas.List.{nil_from_length, drop_more, drop-drop}
-use Rattle.std.proofs.lemmas.Bool.{eq-eqb}
 use Rattle.casefile.specs.declared.fault.FieldFault.{FieldFault}
 use Rattle.casefile.specs.declared.fault.LineFault.{LineFault}
 use Rattle.casefile.specs.declared.fault.LineFault.TheVariants.{NoLetter, WrongLength, NoSpace, BadField}
@@ -16,15 +15,10 @@ use Rattle.casefile.specs.declared.line.Record.TheVariants.{Term, Given, Ask, Sh
 use Rattle.casefile.specs.declared.number.Number.{Number}
 use Rattle.casefile.specs.Fields.{field_of}
 use Rattle.casefile.specs.Layout.{byte_of, widths, long, spaces_from, fields_from, spaces, fields, Begins, RightLength, SpaceAt, part_at}
-use Rattle.casefile.specs.Lines.{letter_in, fields_in, Placed, placed_at, Apart, Says, FirstUnread}
+use Rattle.casefile.specs.Lines.{letter_in, Placed, placed_at, fields_in, Apart, Says, FirstUnread}
 use Rattle.casefile.specs.Questions.{FirstBad, WellFormed, Fails, Reads}
 use Rattle.casefile.specs.Records.{letter_of, spaced, line_of}
 use Rattle.casefile.proofs.Columns.{field_of_same}
-
--- a field's fault, handed on by a `?`
-pub unread : (line line' : Line) → line ≡ line' → (r : Result Record FieldFault) (e : FieldFault) → FirstUnread line' e.column → IsErrAnd r (λ y. y ≡ e) → MatchResult r (Says line) (λ f. FirstUnread line f.column)
-unread line line' is (Ok said) e h by = absurd by
-unread line line' is (Err f) e h by = subst (λ l. FirstUnread l f.column) (sym is) (subst (λ g. FirstUnread line' g.column) (sym by) h)
 
 -- a letter is told from its byte
 letter_by : ℕ → Letter
@@ -59,11 +53,14 @@ spaced_line (Given row) = (refl, tt)
 spaced_line (Ask row) = (refl, tt)
 spaced_line (Show row) = (refl, tt)
 
+formed : {w : ℕ} (n : Number w) → WellFormed w (field_of w n.value)
+formed n = record { number = n; text = refl }
+
 formed_line : (r : Record) → AllByRecursion (λ p. WellFormed p.1 (part_at (line_of r) p)) (fields (letter_of r))
-formed_line (Term row kind left right) = ((row, refl), ((kind, refl), ((left, refl), ((right, refl), tt))))
-formed_line (Given row) = ((row, refl), tt)
-formed_line (Ask row) = ((row, refl), tt)
-formed_line (Show row) = ((row, refl), tt)
+formed_line (Term row kind left right) = (formed row, (formed kind, (formed left, (formed right, tt))))
+formed_line (Given row) = (formed row, tt)
+formed_line (Ask row) = (formed row, tt)
+formed_line (Show row) = (formed row, tt)
 
 pub never_fails : (r : Record) (e : LineFault) → Fails (line_of r) e → ⊥
 never_fails r NoLetter h = h (letter_of r) refl
@@ -78,7 +75,7 @@ number_same w m n e =
       value = e i;
       some = le_prop m.some n.some i;
       few = le_prop m.few n.few i;
-      fits = is_prop→PathP (λ k. e k < 10 ^ w) (λ k. le_prop) m.fits n.fits i;
+      fits = to_path_p (λ k. e k < 10 ^ w) {a = m.fits} (le_prop _ n.fits) i;
     }
 
 field_same : (w : ℕ) (m n : Number w) → field_of w m.value ≡ field_of w n.value → m ≡ n
@@ -88,13 +85,9 @@ field_same w m n e = number_same w m n (field_of_same w m.value n.value m.some m
 part : ℕ → ℕ → List ℕ → List ℕ
 part i w t = take w (drop i t)
 
-not_true_is_false : (b : Bool) → T (not b) → b ≡ true → ⊥
-not_true_is_false true h e = h
-not_true_is_false false h e = let z : ◌≡◌ {A = ℕ} 0 1 = cc in omega arith
-
 -- lines of different letters are not the same
-clash : (r s : Record) → line_of r ≡ line_of s → T (not (eqb (byte_of (letter_of r)) (byte_of (letter_of s)))) → r ≡ s
-clash r s e other = absurd (not_true_is_false _ other (eq-eqb _ _ (ap (λ t. get_or t 0 0) e)))
+clash : (r s : Record) → line_of r ≡ line_of s → (byte_of (letter_of r) ≡ byte_of (letter_of s) → ⊥) → r ≡ s
+clash r s e other = absurd (other (ap (λ t. get_or t 0 0) e))
 
 -- a record is told from its line
 pub line_same : (r s : Record) → line_of r ≡ line_of s → r ≡ s
@@ -104,18 +97,18 @@ line_same (Term a b c d) (Term a' b' c' d') e =
 line_same (Given a) (Given a') e = ap Given (field_same 4 a a' (ap (part 2 4) e))
 line_same (Ask a) (Ask a') e = ap Ask (field_same 4 a a' (ap (part 2 4) e))
 line_same (Show a) (Show a') e = ap Show (field_same 4 a a' (ap (part 2 4) e))
-line_same (Term a b c d) (Given a') e = clash _ _ e tt
-line_same (Term a b c d) (Ask a') e = clash _ _ e tt
-line_same (Term a b c d) (Show a') e = clash _ _ e tt
-line_same (Given a) (Term a' b' c' d') e = clash _ _ e tt
-line_same (Given a) (Ask a') e = clash _ _ e tt
-line_same (Given a) (Show a') e = clash _ _ e tt
-line_same (Ask a) (Term a' b' c' d') e = clash _ _ e tt
-line_same (Ask a) (Given a') e = clash _ _ e tt
-line_same (Ask a) (Show a') e = clash _ _ e tt
-line_same (Show a) (Term a' b' c' d') e = clash _ _ e tt
-line_same (Show a) (Given a') e = clash _ _ e tt
-line_same (Show a) (Ask a') e = clash _ _ e tt
+line_same (Term a b c d) (Given a') e = clash _ _ e (λ h. omega arith)
+line_same (Term a b c d) (Ask a') e = clash _ _ e (λ h. omega arith)
+line_same (Term a b c d) (Show a') e = clash _ _ e (λ h. omega arith)
+line_same (Given a) (Term a' b' c' d') e = clash _ _ e (λ h. omega arith)
+line_same (Given a) (Ask a') e = clash _ _ e (λ h. omega arith)
+line_same (Given a) (Show a') e = clash _ _ e (λ h. omega arith)
+line_same (Ask a) (Term a' b' c' d') e = clash _ _ e (λ h. omega arith)
+line_same (Ask a) (Given a') e = clash _ _ e (λ h. omega arith)
+line_same (Ask a) (Show a') e = clash _ _ e (λ h. omega arith)
+line_same (Show a) (Term a' b' c' d') e = clash _ _ e (λ h. omega arith)
+line_same (Show a) (Given a') e = clash _ _ e (λ h. omega arith)
+line_same (Show a) (Ask a') e = clash _ _ e (λ h. omega arith)
 
 some_long : (ws : List ℕ) → 0 < long ws
 some_long [] = omega arith
@@ -126,17 +119,15 @@ from_spaces : (t ws : List ℕ) (i c : ℕ) → c ≡ i + 1 → length (drop i t
 from_spaces t [] i c at fits all = nil_from_length (drop i t) (omega arith)
 from_spaces t (w ∷ ws) i c at fits all =
     let within : i < length t = omega (arith, length-drop i t, some_long ws) in
-    let gap : get_or t i 0 ≡ 32 = ap (λ (k : ℕ). get_or t k 0) (let k : i ≡ c - 1 = omega arith in k) ∙ all.0 in
-    let here : i + 1 ≡ c + 1 - 1 = omega arith in
+    let here : c - 1 ≡ i = omega arith in
+    let next : c + 1 - 1 ≡ i + 1 = omega arith in
+    let gap : get_or t i 0 ≡ 32 = rw here at all.0 in
     let rest = from_spaces t ws (i + 1 + w) (c + 1 + w) (omega arith) (simp length-drop (omega (arith, length-drop i t, some_long ws))) all.1 in
-    drop_more t i 0 within
-    ∙ ap (λ l. get_or t i 0 ∷ l) (sym (take-append-drop w (drop (i + 1) t)) ∙ ap (λ l. take w (drop (i + 1) t) ++ l) (drop-drop w (i + 1) t ∙ rest))
-    ∙ ap (λ (b : ℕ). b ∷ (take w (drop (i + 1) t) ++ spaced (map (part_at t) (fields_from (c + 1 + w) ws)))) gap
-    ∙ ap (λ (k : ℕ). 32 ∷ (take w (drop k t) ++ spaced (map (part_at t) (fields_from (c + 1 + w) ws)))) here
+    rw (next, drop_more t i 0 within, gap, ← rest, ← drop-drop w (i + 1) t, take-append-drop w (drop (i + 1) t)) refl
 
 bytes_at : (t : List ℕ) (ps : List (ℕ × ℕ)) → map (λ (p : Placed). p.2) (map (placed_at t) ps) ≡ map (part_at t) ps
 bytes_at t [] = refl
-bytes_at t (p ∷ ps) = ap (λ l. part_at t p ∷ l) (bytes_at t ps)
+bytes_at t (p ∷ ps) = simp (bytes_at t ps)
 
 -- a line taken apart whose fields say a record is that record's line
 pub is_line : (t : List ℕ) (line : Line) (r : Record) → Apart t line → Says line r → t ≡ line_of r
@@ -148,25 +139,29 @@ is_line t line r h said =
     ∙ ap (λ (b : ℕ). b ∷ drop 1 t) (h.begins ∙ ap byte_of said.letter)
     ∙ ap (λ l. byte_of (letter_of r) ∷ l) (tail ∙ ap spaced bytes)
 
--- the first field that is not well formed, by its place in the text
-first_unread : (t : List ℕ) (fs : List Placed) (ps : List (ℕ × ℕ)) (bad : Placed) → fs ≡ map (placed_at t) ps → FirstBad (λ q. WellFormed q.0 q.2) fs bad → FirstBad (λ p. WellFormed p.1 (part_at t p)) ps (bad.1, bad.0)
-first_unread t [] ps bad e h = absurd h
-first_unread t (f ∷ fs) [] bad e h = let z : ◌≡◌ {A = ℕ} 0 1 = cc in omega arith
-first_unread t (f ∷ fs) (p ∷ ps) bad e (inl here) =
-    let same : f ≡ placed_at t p = cc in
-    inl (subst (λ (q : Placed). WellFormed q.0 q.2 → ⊥) same here.0, ap (λ (q : Placed). (q.1, q.0)) (here.1 ∙ same))
-first_unread t (f ∷ fs) (p ∷ ps) bad e (inr later) =
-    let same : f ≡ placed_at t p = cc in
-    inr (subst (λ (q : Placed). WellFormed q.0 q.2) same later.0, first_unread t fs ps bad (cc) later.1)
+-- the first of these fields that is not well formed begins in column c
+abbrev pub UnreadIn : List Placed → ℕ → Type 0
+UnreadIn [] c = ⊥
+UnreadIn (p ∷ ps) c = ((WellFormed p.0 p.2 → ⊥) × (c ≡ p.1)) ⊎ (WellFormed p.0 p.2 × UnreadIn ps c)
+
+unread_in : (ps : List Placed) (c : ℕ) → UnreadIn ps c → (p : Placed) × FirstBad (λ q. WellFormed q.0 q.2) ps p × (c ≡ p.1)
+unread_in [] c h = absurd h
+unread_in (p ∷ ps) c (inl here) = (p, inl (here.0, refl), here.1)
+unread_in (p ∷ ps) c (inr later) = let (q, first, is) = unread_in ps c later.1 in (q, inr (later.0, first), is)
+
+pub first_unread : (line : Line) (c : ℕ) → UnreadIn (fields_in line) c → FirstUnread line c
+first_unread line c h = let (p, first, is) = unread_in (fields_in line) c h in record { field = p; first = first; column = is }
+
+-- that field, by its place in the text
+placed_bad : (t : List ℕ) (ps : List (ℕ × ℕ)) (p : Placed) → FirstBad (λ q. WellFormed q.0 q.2) (map (placed_at t) ps) p → (w : ℕ) × FirstBad (λ q. WellFormed q.1 (part_at t q)) ps (p.1, w)
+placed_bad t [] p h = absurd h
+placed_bad t (q ∷ ps) p (inl here) = (q.1, inl (here.0, λ i. ((here.1 i).1, q.1)))
+placed_bad t (q ∷ ps) p (inr later) = let (w, first) = placed_bad t ps p later.1 in (w, inr (later.0, first))
 
 pub field_fails : (t : List ℕ) (line : Line) (e : FieldFault) → Apart t line → FirstUnread line e.column → Fails t (BadField e)
-field_fails t line e h bad = (
-  letter_in line,
-  h.begins,
-  h.right,
-  h.spaced,
-  (bad.0.0, subst (λ (c : ℕ). FirstBad (λ p. WellFormed p.1 (part_at t p)) (fields (letter_in line)) (c, bad.0.0)) (sym bad.2) (first_unread t (fields_in line) _ bad.0 h.parts bad.1)),
-)
+field_fails t line e h bad =
+    let (w, first) = placed_bad t (fields (letter_in line)) bad.field (subst (λ fs. FirstBad (λ q. WellFormed q.0 q.2) fs bad.field) h.parts bad.first) in
+    (letter_in line, h.begins, h.right, h.spaced, (w, subst (λ (c : ℕ). FirstBad (λ q. WellFormed q.1 (part_at t q)) (fields (letter_in line)) (c, w)) (sym bad.column) first))
 
 -- one line has one answer
 
@@ -178,12 +173,9 @@ first_same G (x ∷ xs) a b (inr h) (inl k) = absurd (k.0 h.0)
 first_same G (x ∷ xs) a b (inr h) (inr k) = first_same G xs a b h.1 k.1
 
 module _ (t : List ℕ) where
-  one_letter : (l m : Letter) → Begins t l → Begins t m → l ≡ m
-  one_letter l m h k = letter_same l m (sym h ∙ k)
-
   -- what holds by one letter holds by the other
   by_letter : (P : Letter → Type 0) (l m : Letter) → Begins t l → Begins t m → P l → P m
-  by_letter P l m h k = subst P (one_letter l m h k)
+  by_letter P l m h k = subst P (letter_same l m (sym h ∙ k))
 
   pub fails_same : (e f : LineFault) → Fails t e → Fails t f → e ≡ f
   fails_same NoLetter NoLetter h k = refl
@@ -206,13 +198,8 @@ module _ (t : List ℕ) where
       let same = first_same good (fields k.0) _ _ (by_letter (λ l. FirstBad good (fields l) (f.column, h.4.0)) h.0 k.0 h.1 k.1 h.4.1) k.4.1 in
       λ i. BadField (record { column = (same i).0 })
 
-  pub reads_same : (r q : Result Record LineFault) → Reads t r → Reads t q → r ≡ q
-  reads_same (Ok r) (Ok q) h k = ap Ok (line_same r q (sym h ∙ k))
-  reads_same (Ok r) (Err f) h k = absurd (never_fails r f (subst (λ l. Fails l f) h k))
-  reads_same (Err e) (Ok q) h k = absurd (never_fails q e (subst (λ l. Fails l e) k h))
-  reads_same (Err e) (Err f) h k = ap Err (fails_same e f h k)
-
--- a fault that a `?` hands on
-pub read_fails : (t : List ℕ) (r : Result Record LineFault) (e : LineFault) → Fails t e → IsErrAnd r (λ y. y ≡ e) → Reads t r
-read_fails t (Ok said) e h by = absurd by
-read_fails t (Err f) e h by = subst (Fails t) (sym by) h
+  pub reads_only : (r : Result Record LineFault) → Reads t r → (q : Result Record LineFault) → Reads t q → r ≡ q
+  reads_only (Ok r) h (Ok q) k = ap Ok (line_same r q (sym h ∙ k))
+  reads_only (Ok r) h (Err f) k = absurd (never_fails r f (subst (λ l. Fails l f) h k))
+  reads_only (Err e) h (Ok q) k = absurd (never_fails q e (subst (λ l. Fails l e) k h))
+  reads_only (Err e) h (Err f) k = ap Err (fails_same e f h k)

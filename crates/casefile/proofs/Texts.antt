@@ -1,8 +1,7 @@
 -- Texts as lines: cutting, counting, and the bounds of what is reported. Assumes nothing.
-use Rattle.std.proofs.Common.{◌≡◌, ℕ, ◌+◌, ◌-◌, ◌<◌, ◌≤◌, List, [], ◌∷◌, ◌++◌, length, get_or, take, drop, sym, refl, ap, ◌∙◌, subst, inl, inr, append_assoc, append-nil, arith, length-append, take-append-drop}
-use native.Mathlib.Nat.{sub-zero}
+use Rattle.std.proofs.Common.{rules, ◌≡◌, ℕ, ◌+◌, ◌<◌, ◌≤◌, List, [], ◌∷◌, ◌++◌, length, sym, refl, ap, ◌∙◌, subst, inl, inr, append_assoc, arith, length-append}
 use Rattle.std.specs.List.{AllByRecursion}
-use Rattle.std.proofs.lemmas.List.{take_rest, drop_more, get_or-take, length-take-le, nil_from_length}
+use Rattle.std.proofs.lemmas.List.Sums.{sum_by-append}
 use Rattle.casefile.specs.declared.fault.LineFault.{LineFault}
 use Rattle.casefile.specs.declared.fault.LineFault.TheVariants.{NoLetter, WrongLength, NoSpace, BadField}
 use Rattle.casefile.specs.declared.fault.TextFault.{TextFault}
@@ -16,34 +15,23 @@ use Rattle.casefile.specs.Faults.{report_of}
 use Rattle.casefile.specs.Layout.{widths, long, spaces, fields}
 use Rattle.casefile.specs.Questions.{FirstBad, Fails}
 use Rattle.casefile.specs.Records.{line_of}
-use Rattle.casefile.specs.Texts.{limit, FirstLine, text_of, count_of, Holds, Adds, FirstFault, InLine, Refused}
-
-pub cut_here : (t : List ℕ) (i : ℕ) → i < length t → get_or t i 0 ≡ 10 → ((k : ℕ) → k < i → get_or t k 0 ≡ 10 → ⊥) → FirstLine t (take (i - 0) t) (take (length t - (i + 1)) (drop (i + 1) t))
-cut_here t i within here before =
-    rw (sub-zero i, take_rest t (i + 1)) (record {
-      whole = sym (take-append-drop i t) ∙ ap (λ l. take i t ++ l) (drop_more t i 0 within ∙ ap (λ (b : ℕ). b ∷ drop (i + 1) t) here);
-      first = λ k lt is. let low : k < i = omega (arith, length-take-le i t (omega arith)) in before k low (sym (get_or-take i t k 0 low) ∙ is);
-    })
+use Rattle.casefile.specs.Texts.{limit, text_of, count_of, Holds, Adds, FirstFault, Refused}
 
 -- one more record at the end
 
-count_push : (l : Letter) (rs : List Record) (r : Record) → count_of l (rs ++ r ∷ []) ≡ count_of l rs + count_of l (r ∷ [])
-count_push l [] r = omega arith
-count_push l (x ∷ rs) r = omega (arith, count_push l rs r)
+count_append : (l : Letter) (qs rs : List Record) → count_of l (qs ++ rs) ≡ count_of l qs + count_of l rs
+count_append l qs rs = sum_by-append _ qs rs
 
 text_push : (rs : List Record) (r : Record) (after : List ℕ) → text_of (rs ++ r ∷ []) ++ after ≡ text_of rs ++ (line_of r ++ 10 ∷ after)
-text_push [] r after = append_assoc (line_of r) (10 ∷ []) after
-text_push (x ∷ rs) r after =
-    append_assoc (line_of x) (10 ∷ text_of (rs ++ r ∷ [])) after
-    ∙ ap (λ l. line_of x ++ 10 ∷ l) (text_push rs r after)
-    ∙ sym (append_assoc (line_of x) (10 ∷ text_of rs) (line_of r ++ 10 ∷ after))
+text_push [] r after = simp append_assoc
+text_push (x ∷ rs) r after = simp (append_assoc, text_push rs r after)
 
 holds_push : (rs : List Record) (r : Record) (s s' : Summary) → Holds rs s → Adds s r s' → Holds (rs ++ r ∷ []) s'
 holds_push rs r s s' h a = record {
-  terms = a.terms ∙ ap (λ (n : ℕ). n + count_of letters.Term (r ∷ [])) h.terms ∙ sym (count_push letters.Term rs r);
-  given = a.given ∙ ap (λ (n : ℕ). n + count_of letters.Given (r ∷ [])) h.given ∙ sym (count_push letters.Given rs r);
-  asks = a.asks ∙ ap (λ (n : ℕ). n + count_of letters.Ask (r ∷ [])) h.asks ∙ sym (count_push letters.Ask rs r);
-  shows = a.shows ∙ ap (λ (n : ℕ). n + count_of letters.Show (r ∷ [])) h.shows ∙ sym (count_push letters.Show rs r);
+  terms = omega (arith, count_append letters.Term rs (r ∷ []));
+  given = omega (arith, count_append letters.Given rs (r ∷ []));
+  asks = omega (arith, count_append letters.Ask rs (r ∷ []));
+  shows = omega (arith, count_append letters.Show rs (r ∷ []));
 }
 
 -- each record has one letter, so the counts add up to the records
@@ -61,7 +49,9 @@ one_letter (Show row) = refl
 counted : (rs : List Record) → all_counts rs ≡ length rs
 unfolding all_counts
 counted [] = refl
-counted (r ∷ rs) = omega (arith, one_letter r, counted rs)
+counted (r ∷ rs) =
+    let more : (l : Letter) → count_of l (r ∷ rs) ≡ count_of l (r ∷ []) + count_of l rs = λ l. count_append l (r ∷ []) rs in
+    omega (arith, one_letter r, counted rs, more letters.Term, more letters.Given, more letters.Ask, more letters.Show)
 
 -- a line takes a byte at least
 lines_fit : (rs : List Record) → length rs ≤ length (text_of rs)
@@ -76,10 +66,10 @@ first_in G P (x ∷ xs) bad all (inl here) = subst P (sym here.1) all.0
 first_in G P (x ∷ xs) bad all (inr later) = first_in G P xs bad all.1 later.1
 
 narrow : (l : Letter) → (long (widths l) ≤ 19) × AllByRecursion (λ c. c < 100) (spaces l) × AllByRecursion (λ (p : ℕ × ℕ). p.0 < 100) (fields l)
-narrow letters.Term = (omega arith, (omega arith, (omega arith, (omega arith, (omega arith, tt)))), (omega arith, (omega arith, (omega arith, (omega arith, tt)))))
-narrow letters.Given = (omega arith, (omega arith, tt), (omega arith, tt))
-narrow letters.Ask = (omega arith, (omega arith, tt), (omega arith, tt))
-narrow letters.Show = (omega arith, (omega arith, tt), (omega arith, tt))
+narrow letters.Term = search rules
+narrow letters.Given = search rules
+narrow letters.Ask = search rules
+narrow letters.Show = search rules
 
 line_column : (t : List ℕ) (f : LineFault) → Fails t f → (report_of (Line f)).column < 100
 line_column t NoLetter h = omega arith
@@ -92,25 +82,28 @@ first_column t TooLong h = omega arith
 first_column t NoNewline h = omega arith
 first_column t (Line f) h = line_column h.0 f h.3
 
--- so many lines have been counted, and not too many
-pub few_lines : (t rest : List ℕ) (rs : List Record) (s : Summary) → length t ≤ limit → t ≡ text_of rs ++ rest → Holds rs s → (s.terms + s.given + s.asks + s.shows ≡ length rs) × (length rs ≤ limit)
+-- the lines of t before the rest say records, which s counts
+pub record ReadTo (t rest : List ℕ) (s : Summary) : Type 0 where
+  pub said : List Record
+  pub split : t ≡ text_of said ++ rest
+  pub counts : Holds said s
+
+-- each record is one line
+counts_lines : {t rest : List ℕ} {s : Summary} (h : ReadTo t rest s) → s.terms + s.given + s.asks + s.shows ≡ length h.said
 unfolding all_counts
-few_lines t rest rs s short split h = (
-  omega (arith, h.terms, h.given, h.asks, h.shows, counted rs),
-  omega (arith, ap length split, length-append (text_of rs) rest, lines_fit rs),
-)
+counts_lines h = omega (arith, h.counts.terms, h.counts.given, h.counts.asks, h.counts.shows, counted h.said)
 
-pub one_more : (t rest after : List ℕ) (rs : List Record) (s s' : Summary) (r : Record) → t ≡ text_of rs ++ rest → Holds rs s → rest ≡ line_of r ++ 10 ∷ after → Adds s r s' → (qs : List Record) × (t ≡ text_of qs ++ after) × Holds qs s'
-one_more t rest after rs s s' r split h is a = (
-  rs ++ r ∷ [],
-  split ∙ ap (λ l. text_of rs ++ l) is ∙ sym (text_push rs r after),
-  holds_push rs r s s' h a,
-)
+-- not too many lines are counted
+pub few_lines : {t rest : List ℕ} {s : Summary} → length t ≤ limit → ReadTo t rest s → s.terms + s.given + s.asks + s.shows ≤ limit
+few_lines {t} {rest} {s} short h = omega (arith, counts_lines h, ap length h.split, length-append (text_of h.said) rest, lines_fit h.said)
 
-pub refused_here : (t : List ℕ) (n : ℕ) (f : TextFault) → InLine t n f → Refused t n f
-refused_here t n TooLong h = absurd h.1.5
-refused_here t n NoNewline h = h
-refused_here t n (Line f) h = h
+pub one_more : {t rest after : List ℕ} {s s' : Summary} {r : Record} → ReadTo t rest s → rest ≡ line_of r ++ 10 ∷ after → Adds s r s' → ReadTo t after s'
+one_more {t} {rest} {after} {s} {s'} {r} h is a = record {
+  said = h.said ++ r ∷ [];
+  split = h.split ∙ ap (λ l. text_of h.said ++ l) is ∙ sym (text_push h.said r after);
+  counts = holds_push h.said r s s' h.counts a;
+}
 
-pub all_read : (t rest : List ℕ) (rs : List Record) → t ≡ text_of rs ++ rest → length rest ≡ 0 → t ≡ text_of rs
-all_read t rest rs split none = split ∙ ap (λ l. text_of rs ++ l) (nil_from_length rest none) ∙ append-nil (text_of rs)
+-- the next line has a fault
+pub refused_next : {t rest : List ℕ} {s : Summary} (n : ℕ) (f : TextFault) → length t ≤ limit → ReadTo t rest s → n ≡ s.terms + s.given + s.asks + s.shows + 1 → 0 < length rest → FirstFault rest f → Refused t n f
+refused_next n f short h at some bad = inr (short, (h.said, _, h.split, omega (arith, counts_lines h, at), some, bad))

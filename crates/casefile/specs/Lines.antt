@@ -1,5 +1,5 @@
 -- A line taken apart into its fields.
-use Rattle.std.specs.Prelude.{◌≡◌, ℕ, List, [], ◌∷◌, map, Ok, Err, Result}
+use Rattle.std.specs.Prelude.{◌≡◌, ℕ, List, [], ◌∷◌, map, Result, MatchResult}
 use Rattle.std.specs.List.{AllByRecursion}
 use Rattle.casefile.specs.declared.fault.LineFault.{LineFault}
 use Rattle.casefile.specs.declared.layout.Letter.{Letter}
@@ -47,8 +47,7 @@ pub record Apart (t : List ℕ) (line : Line) : Type 0 where
 
 -- what taking a line apart answers: its fields, or the fault of the first question before those on fields that it fails
 abbrev pub Cuts : List ℕ → Result Line LineFault → Type 0
-Cuts t (Ok line) = Apart t line
-Cuts t (Err e) = Fails t e × BeforeFields e
+Cuts t r = MatchResult r (Apart t) (λ e. Fails t e × BeforeFields e)
 
 -- the line has the record's letter, and its fields hold the record's numbers
 pub record Says (line : Line) (r : Record) : Type 0 where
@@ -56,5 +55,7 @@ pub record Says (line : Line) (r : Record) : Type 0 where
   pub numbers : map (λ (p : Placed). p.2) (fields_in line) ≡ texts r
 
 -- the first field that is not well formed begins in column c
-abbrev pub FirstUnread : Line → ℕ → Type 0
-FirstUnread line c = (p : Placed) × FirstBad (λ q. WellFormed q.0 q.2) (fields_in line) p × (c ≡ p.1)
+pub record FirstUnread (line : Line) (c : ℕ) : Type 0 where
+  pub field : Placed
+  pub first : FirstBad (λ p. WellFormed p.0 p.2) (fields_in line) field
+  pub column : c ≡ field.1

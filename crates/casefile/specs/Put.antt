@@ -1,7 +1,6 @@
 -- Lines written into lent bytes.
 use Rattle.std.specs.Prelude.{◌≡◌, ℕ, ◌+◌, ◌<◌, List, [], ◌∷◌, ◌++◌, map, length, drop, Ok, Err, Result}
-use Rattle.std.specs.List.{AllByRecursion}
-use Rattle.casefile.specs.declared.put.Slot.{Slot}
+use Rattle.casefile.specs.declared.slot.Slot.{Slot}
 use Rattle.casefile.specs.declared.put.TooShort.{TooShort}
 use Rattle.casefile.specs.Fields.{field_of}
 use Rattle.casefile.specs.Records.{spaced}
@@ -11,10 +10,6 @@ abbrev pub Wrote : List ℕ → List ℕ → List ℕ → Result ℕ TooShort �
 Wrote bytes before after (Ok n) = (n ≡ length bytes) × (after ≡ bytes ++ drop n before)
 Wrote bytes before after (Err e) = (length before < e.needed) × (e.needed ≡ length bytes) × (after ≡ before)
 
--- the number n in w columns
-abbrev pub slot_of : ℕ → ℕ → Slot
-slot_of w n = record { width = w; number = n }
-
 -- numbers in their columns, each behind one space
 abbrev pub slotted : List Slot → List ℕ
 slotted ss = spaced (map (λ s. field_of s.width s.number) ss)
@@ -23,7 +18,3 @@ slotted ss = spaced (map (λ s. field_of s.width s.number) ss)
 abbrev pub span_of : List Slot → ℕ
 span_of [] = 0
 span_of (s ∷ ss) = 1 + s.width + span_of ss
-
--- each number has a column
-abbrev pub Wide : List Slot → Type 0
-Wide ss = AllByRecursion (λ s. 0 < s.width) ss

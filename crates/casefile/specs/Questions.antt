@@ -1,5 +1,5 @@
 -- The questions asked of a line, in their order: letter, length, spaces, fields. A fault names the first no.
-use Rattle.std.specs.Prelude.{◌≡◌, ℕ, ◌+◌, min, ◌⊎◌, List, [], ◌∷◌, length, Ok, Err, Result}
+use Rattle.std.specs.Prelude.{◌≡◌, ℕ, ◌+◌, min, ◌⊎◌, List, [], ◌∷◌, length, Result, MatchResult}
 use Rattle.std.specs.List.{AllByRecursion}
 use Rattle.casefile.specs.declared.fault.FieldFault.{FieldFault}
 use Rattle.casefile.specs.declared.fault.LineFault.{LineFault}
@@ -17,13 +17,15 @@ FirstBad G [] bad = ⊥
 FirstBad G (x ∷ xs) bad = ((G x → ⊥) × (bad ≡ x)) ⊎ (G x × FirstBad G xs bad)
 
 -- a field of w columns is well formed: it is the text of a number that fits it
-abbrev pub WellFormed : ℕ → List ℕ → Type 0
-WellFormed w t = (n : Number w) × (t ≡ field_of w n.value)
+pub record WellFormed (w : ℕ) (t : List ℕ) : Type 0 where
+  pub number : Number w
+  pub text : t ≡ field_of w number.value
 
 -- what reading a field in column c answers: the number whose text it is, or that it is the text of none
 abbrev pub ReadsField : (w : ℕ) → ℕ → List ℕ → Result (Number w) FieldFault → Type 0
-ReadsField w c t (Ok n) = t ≡ field_of w n.value
-ReadsField w c t (Err e) = (e.column ≡ c) × (WellFormed w t → ⊥)
+ReadsField w c t r = MatchResult r
+    (λ n. t ≡ field_of w n.value)
+    (λ e. (e.column ≡ c) × (WellFormed w t → ⊥))
 
 -- what each fault says of a line's bytes: every question before its own has a yes, and its own a no in that column
 abbrev pub Fails : List ℕ → LineFault → Type 0
@@ -41,5 +43,4 @@ BeforeFields (BadField f) = ⊥
 
 -- what reading a line answers: the record whose line it is, or the fault of the first question that it fails
 abbrev pub Reads : List ℕ → Result Record LineFault → Type 0
-Reads t (Ok said) = t ≡ line_of said
-Reads t (Err e) = Fails t e
+Reads t r = MatchResult r (λ said. t ≡ line_of said) (Fails t)

@@ -1,5 +1,5 @@
 -- A text as lines, and what checking it answers.
-use Rattle.std.specs.Prelude.{◌≡◌, ℕ, ◌+◌, ◌<◌, ◌≤◌, cond, List, [], ◌∷◌, ◌++◌, length, drop, Ok, Err, Result, ◌==◌, ◌≢◌, slice_index}
+use Rattle.std.specs.Prelude.{◌≡◌, ℕ, ◌+◌, ◌<◌, ◌≤◌, count_by, List, [], ◌∷◌, ◌++◌, length, Result, MatchResult, ◌⊎◌, ◌==◌, ◌≢◌, slice_index}
 use Rattle.casefile.specs.declared.fault.TextFault.{TextFault}
 use Rattle.casefile.specs.declared.fault.TextFault.TheVariants.{TooLong, NoNewline, Line}
 use Rattle.casefile.specs.declared.layout.Letter.{Letter}
@@ -31,8 +31,7 @@ text_of (r ∷ rs) = line_of r ++ 10 ∷ text_of rs
 
 -- how many of the records have the letter
 abbrev pub count_of : Letter → List Record → ℕ
-count_of l [] = 0
-count_of l (r ∷ rs) = cond (byte_of (letter_of r) == byte_of l) 1 0 + count_of l rs
+count_of l rs = count_by (λ r. byte_of (letter_of r) == byte_of l) rs
 
 -- the summary counts the records by their letters
 pub record Holds (rs : List Record) (s : Summary) : Type 0 where
@@ -54,22 +53,16 @@ FirstFault t TooLong = ⊥
 FirstFault t NoNewline = OneLine t
 FirstFault t (Line f) = (line : List ℕ) × (after : List ℕ) × FirstLine t line after × Fails line f
 
--- what reading a text's first line answers: its record and how many bytes it takes with its newline, or its fault
-abbrev pub FirstReads : List ℕ → Result (Record × ℕ) TextFault → Type 0
-FirstReads t (Ok p) = (p.1 ≤ length t) × (t ≡ line_of p.0 ++ 10 ∷ drop p.1 t)
-FirstReads t (Err f) = FirstFault t f
-
 -- the first fault is in line n: the lines before it say records, and the rest begins with the line at fault
 abbrev pub InLine : List ℕ → ℕ → TextFault → Type 0
 InLine t n f = (length t ≤ limit) × ((rs : List Record) × (rest : List ℕ) × (t ≡ text_of rs ++ rest) × (n ≡ length rs + 1) × (0 < length rest) × FirstFault rest f)
 
--- a text is refused for a fault in line n
+-- a text is refused for a fault in line n, or in line 0 as too long
 abbrev pub Refused : List ℕ → ℕ → TextFault → Type 0
-Refused t n TooLong = (limit < length t) × (n ≡ 0)
-Refused t n NoNewline = InLine t n NoNewline
-Refused t n (Line f) = InLine t n (Line f)
+Refused t n f = ((limit < length t) × (n ≡ 0) × (f ≡ TooLong)) ⊎ InLine t n f
 
 -- what checking a text answers: the records that its lines say, all of them, are counted, or the first fault is named
 abbrev pub Checked : List ℕ → Result Summary Refusal → Type 0
-Checked t (Ok s) = (length t ≤ limit) × ((rs : List Record) × (t ≡ text_of rs) × Holds rs s)
-Checked t (Err e) = Refused t e.line e.fault
+Checked t r = MatchResult r
+    (λ s. (length t ≤ limit) × ((rs : List Record) × (t ≡ text_of rs) × Holds rs s))
+    (λ e. Refused t e.line e.fault)

@@ -1,8 +1,9 @@
-// Digits in columns: reading and writing the columns of one field, from the last to the first.
+//! Digits in columns: reading and writing the columns of one field, from the last to the first.
 ghost use Rattle.std.specs.Prelude.{◌≡◌, ℕ, ◌+◌, ◌*◌, ◌/◌, ◌%◌, ◌^◌, ◌<◌, ◌≤◌, length, IfSome, MatchOption, ◌≢◌};
 ghost use Rattle.casefile.specs.Fields.{digit, mark, front, field_of, justified};
+ghost use Rattle.casefile.specs.Questions.{WellFormed};
 
-use super::number::WIDEST;
+use super::number::{Number, WIDEST};
 
 // One more column before the last: `above` is what stands before it, 0 where all is blank.
 fn next(above: u32, byte: u8) -> Option<u32>
@@ -14,8 +15,7 @@ fn next(above: u32, byte: u8) -> Option<u32>
     match byte {
         b' ' if above == 0 => Some(0),
         b'0' if above == 0 => None,
-        b'0'..=b'9' => Some(above * 10 + (byte - b'0') as u32),
-        _ => None,
+        _ => last(above, byte),
     }
 }
 
@@ -27,7 +27,7 @@ fn last(above: u32, byte: u8) -> Option<u32>
         (λ n. (n / 10 ≡ above) × (digit n ≡ byte)) }
 {
     match byte {
-        b'0'..=b'9' => Some(above * 10 + (byte - b'0') as u32),
+        b'0'..=b'9' => Some(above * 10 + u32::from(byte - b'0')),
         _ => None,
     }
 }
@@ -47,6 +47,7 @@ fn mark_of(n: u32) -> u8
 }
 
 // The number whose columns before the last one these are.
+// Tried as a loop: its early return has to speak of columns that it never reads. A `try_fold` has no bound on `above`.
 fn read_front(text: &[u8]) -> Option<u32>
     requires { length text.now ≤ 8 }
     ensures { MatchOption result
@@ -60,7 +61,7 @@ fn read_front(text: &[u8]) -> Option<u32>
     next(above, *byte)
 }
 
-// The number whose columns these are, of a field that is as wide as the text.
+// The number whose columns these are, of a field that is as wide as the text. The last one is a digit, also of 0.
 fn read_columns(text: &[u8]) -> Option<u32>
     requires { length text.now ≤ 9 }
     ensures { MatchOption result
@@ -74,36 +75,38 @@ fn read_columns(text: &[u8]) -> Option<u32>
     last(above, *byte)
 }
 
-// The number whose field of `width` columns this text is.
-pub(crate) fn read_number(text: &[u8], width: usize) -> Option<u32>
-    ensures digits { IfSome result (λ n. text.now ≡ justified width n) }
+// The number whose field of `W` columns this text is.
+#[tactic(auto, using(crate::proofs::Justified::of_width))]
+pub(crate) fn read_number<const W: usize>(text: &[u8]) -> Option<Number<W>>
+    ensures digits { IfSome result (λ n. text.now ≡ justified W n.value) }
     ensures answer { MatchOption result
-        ((n : ℕ) → 0 < width → width ≤ 9 → n < 10 ^ width → text.now ≢ field_of width n)
-        (λ n. (0 < width) × (width ≤ 9) × (n < 10 ^ width) × (text.now ≡ field_of width n)) }
+        (WellFormed W text.now → ⊥)
+        (λ n. text.now ≡ field_of W n.value) }
 {
-    if text.len() != width || width > WIDEST {
+    if text.len() != W || W > WIDEST {
         return None;
     }
-    read_columns(text)
+    let value = read_columns(text)?;
+    Some(Number { value })
 }
 
-// Writes the columns before the last one.
+// Writes the columns before the last one. By recursion: nothing is known of a slice after `iter_mut().rev()`.
 fn put_front(out: &mut [u8], n: u32)
     ensures { out.new ≡ front (length out.old) n }
 {
-    let Some(end) = out.len().checked_sub(1) else {
-        return;
-    };
-    out[end] = mark_of(n);
-    put_front(&mut out[0..end], n / 10);
+    if let Some((byte, rest)) = out.split_last_mut() {
+        *byte = mark_of(n);
+        put_front(rest, n / 10);
+    }
 }
 
-// Writes the number into a field as wide as `out`.
+// Writes the number into a field as wide as `out`. The last column is a digit, also of 0.
 pub(crate) fn put_number(out: &mut [u8], n: u32)
     requires { 0 < length out.old }
     ensures { out.new ≡ field_of (length out.old) n }
 {
-    let end = out.len() - 1;
-    out[end] = digit_of(n);
-    put_front(&mut out[0..end], n / 10);
+    // There is a last byte, as is required.
+    let (byte, rest) = out.split_last_mut().unwrap();
+    *byte = digit_of(n);
+    put_front(rest, n / 10);
 }

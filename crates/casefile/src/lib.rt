@@ -1,4 +1,4 @@
-// The text of case files: what a line says, how it is written, and which fault a text has first.
+//! The text of case files: what a line says, how it is written, and which fault a text has first.
 #![tactic(auto)]
 
 mod digits;
@@ -8,6 +8,7 @@ pub mod line;
 pub mod number;
 pub mod put;
 pub mod refusal;
+mod slot;
 pub mod summary;
 pub mod text;
 mod write;

@@ -1,7 +1,7 @@
-// Lines and what they say.
+//! Lines and what they say.
 ghost use Rattle.std.specs.Prelude.{◌≡◌, ℕ, ◌+◌, ◌<◌, ◌≤◌, min, [], ◌∷◌, length, IfOk, Result, MatchResult};
 ghost use Rattle.casefile.specs.Fields.{justified};
-ghost use Rattle.casefile.specs.Questions.{ReadsField, Fails, BeforeFields, Reads};
+ghost use Rattle.casefile.specs.Questions.{WellFormed, ReadsField, Fails, BeforeFields, Reads};
 ghost use Rattle.casefile.specs.Layout.{byte_of, widths, SpaceAt};
 ghost use Rattle.casefile.specs.Lines.{Cuts, Says, FirstUnread, placed, placed_at};
 
@@ -13,15 +13,16 @@ use super::layout::{
 };
 use super::number::Number;
 
-// A part of a line that should hold a number, and the column where it begins.
-#[derive(Clone, Copy)]
+/// A part of a line that should hold a number, and the column where it begins.
+// A narrower type for the column would ask more of callers, who may build a field.
+#[derive(Clone, Copy, Debug, PartialEq, Eq, Hash)]
 pub struct Field<'a> {
     pub text: &'a [u8],
     pub column: usize,
 }
 
-// A line taken apart: its letter, and the fields behind it.
-#[derive(Clone, Copy)]
+/// A line taken apart: its letter, and the fields behind it.
+#[derive(Clone, Copy, Debug, PartialEq, Eq, Hash)]
 pub enum Line<'a> {
     Term {
         row: Field<'a>,
@@ -40,8 +41,9 @@ pub enum Line<'a> {
     },
 }
 
-// What a line says: its letter, and numbers that fit the fields.
-#[derive(Clone, Copy, PartialEq, Eq, Debug)]
+/// What a line says: its letter, and numbers that fit the fields.
+// Two types with `Line` and no generic one: that would take the types of its fields, and say less of either.
+#[derive(Clone, Copy, Debug, PartialEq, Eq, Hash)]
 pub enum Record {
     Term {
         row: Number<ROW_WIDTH>,
@@ -61,17 +63,19 @@ pub enum Record {
 }
 
 impl Field<'_> {
-    // The number that the field holds, in a width of `W` columns.
+    /// The number that the field holds, in a width of `W` columns.
+    // `formed` says of a number read what `answer` says of none, in the same word.
     pub fn number<const W: usize>(&self) -> Result<Number<W>, FieldFault>
         ensures digits { IfOk result (λ n. self.now.text.now ≡ justified W n.value) }
+        ensures formed { IfOk result (λ n. WellFormed W self.now.text.now) }
         ensures answer { ReadsField W self.now.column self.now.text.now result }
     {
-        let Some(value) = read_number(self.text, W) else {
+        let Some(number) = read_number(self.text) else {
             return Err(FieldFault {
                 column: self.column,
             });
         };
-        Ok(Number { value })
+        Ok(number)
     }
 }
 
@@ -85,7 +89,8 @@ fn wrong_length(len: usize, right: usize) -> LineFault
 
 // A field by its column.
 fn field_at<'a>(column: usize, text: &'a [u8]) -> Field<'a>
-    ensures { (w : ℕ) → placed w result ≡ (w, column, text.now) }
+    ensures column { result.column ≡ column }
+    ensures text { result.text.now ≡ text.now }
 {
     Field { text, column }
 }
@@ -138,34 +143,30 @@ fn cut_term<'a>(rest: &'a [u8]) -> Result<Line<'a>, LineFault>
 }
 
 impl<'a> Line<'a> {
-    // Takes a line apart by its letter, length and spaces.
+    /// Takes a line apart by its letter, length and spaces.
     pub fn cut(text: &'a [u8]) -> Result<Line<'a>, LineFault>
         ensures { Cuts text.now result }
     {
         let [head, rest @ ..] = text else {
             return Err(LineFault::NoLetter);
         };
-        let Some(letter) = Letter::of(*head) else {
-            return Err(LineFault::NoLetter);
-        };
+        let letter = Letter::try_from(*head)?;
         match letter {
             Letter::Term => cut_term(rest),
-            Letter::Given => {
-                let row = cut_row(letter, rest)?;
-                Ok(Line::Given { row })
-            }
-            Letter::Ask => {
-                let row = cut_row(letter, rest)?;
-                Ok(Line::Ask { row })
-            }
-            Letter::Show => {
-                let row = cut_row(letter, rest)?;
-                Ok(Line::Show { row })
-            }
+            Letter::Given => Ok(Line::Given {
+                row: cut_row(letter, rest)?,
+            }),
+            Letter::Ask => Ok(Line::Ask {
+                row: cut_row(letter, rest)?,
+            }),
+            Letter::Show => Ok(Line::Show {
+                row: cut_row(letter, rest)?,
+            }),
         }
     }
 
-    // What the line says, or its first field that is no number of its width.
+    /// What the line says, or its first field that is no number of its width.
+    #[tactic(auto, using(crate::proofs::Readings::first_unread))]
     pub fn record(&self) -> Result<Record, FieldFault>
         ensures { MatchResult result
             (λ said. Says self.now said)
@@ -177,40 +178,24 @@ impl<'a> Line<'a> {
                 kind,
                 left,
                 right,
-            } => {
-                let row = row.number()?;
-                let kind = kind.number()?;
-                let left = left.number()?;
-                let right = right.number()?;
-                Ok(Record::Term {
-                    row,
-                    kind,
-                    left,
-                    right,
-                })
-            }
-            Line::Given { row } => {
-                let row = row.number()?;
-                Ok(Record::Given { row })
-            }
-            Line::Ask { row } => {
-                let row = row.number()?;
-                Ok(Record::Ask { row })
-            }
-            Line::Show { row } => {
-                let row = row.number()?;
-                Ok(Record::Show { row })
-            }
+            } => Ok(Record::Term {
+                row: row.number()?,
+                kind: kind.number()?,
+                left: left.number()?,
+                right: right.number()?,
+            }),
+            Line::Given { row } => Ok(Record::Given { row: row.number()? }),
+            Line::Ask { row } => Ok(Record::Ask { row: row.number()? }),
+            Line::Show { row } => Ok(Record::Show { row: row.number()? }),
         }
     }
 }
 
-// What a line says, or the first question that it fails.
+/// What a line says, or the first question that it fails.
 pub fn read_line(text: &[u8]) -> Result<Record, LineFault>
     ensures answer { Reads text.now result }
     ensures only { (q : Result Record LineFault) → Reads text.now q → result ≡ q }
 {
     let line = Line::cut(text)?;
-    let said = line.record()?;
-    Ok(said)
+    Ok(line.record()?)
 }

@@ -1,84 +1,74 @@
-// Written lines: a letter, then numbers in their columns, each behind one space.
-ghost use Rattle.std.specs.Prelude.{◌≡◌, ◌+◌, ◌<◌, [], ◌∷◌, ◌++◌, length};
-ghost use Rattle.casefile.specs.Put.{slot_of, slotted, span_of, Wide, Wrote};
+//! Written lines: a letter, then numbers in their columns, each behind one space.
+ghost use Rattle.std.specs.Prelude.{◌≡◌, ◌+◌, [], ◌∷◌, ◌++◌, length};
+ghost use Rattle.casefile.specs.Put.{slotted, span_of, Wrote};
 
 use super::digits::put_number;
 use super::layout::{NEWLINE, SPACE};
-use super::number::Number;
+use super::slot::Slot;
 
-// A number and the columns that it is written in.
-#[derive(Clone, Copy)]
-pub(crate) struct Slot {
-    width: usize,
-    number: u32,
-}
-
-impl<const W: usize> Number<W> {
-    pub(crate) fn slot(self) -> Slot
-        ensures { result ≡ slot_of W self.entry.value }
-    {
-        Slot {
-            width: W,
-            number: self.value,
-        }
-    }
-}
-
-// Too few bytes are lent for what is to be written.
-#[derive(Clone, Copy, PartialEq, Eq, Debug)]
+/// Too few bytes are lent for what is to be written.
+#[derive(Clone, Copy, Debug, PartialEq, Eq, Hash)]
 pub struct TooShort {
     pub needed: usize,
 }
 
+// A line to be written: its letter, its numbers, and how many bytes they take.
+// The length is kept, since adding it up would need a bound on how many numbers there are.
+#[derive(Clone, Copy)]
+pub(crate) struct Written<'a> {
+    pub(crate) letter: u8,
+    pub(crate) slots: &'a [Slot],
+    pub(crate) len: usize,
+    ghost fits: { len ≡ 1 + span_of slots.now },
+}
+
+// Fills `out` with numbers, each behind one space. By recursion, as it splits what is left of `out`.
 fn put_slots(out: &mut [u8], slots: &[Slot])
-    requires span { length out.old ≡ span_of slots.now }
-    requires wide { Wide slots.now }
+    requires { length out.old ≡ span_of slots.now }
     ensures { out.new ≡ slotted slots.now }
 {
-    let [slot, more @ ..] = slots else {
-        return;
-    };
-    let end = slot.width + 1;
-    out[0] = SPACE;
-    put_number(&mut out[1..end], slot.number);
-    put_slots(&mut out[end..], more);
-}
-
-// Fills `out` with a line.
-fn fill_line(out: &mut [u8], letter: u8, slots: &[Slot])
-    requires span { length out.old ≡ 1 + span_of slots.now }
-    requires wide { Wide slots.now }
-    ensures { out.new ≡ letter ∷ slotted slots.now }
-{
-    out[0] = letter;
-    put_slots(&mut out[1..], slots);
-}
-
-// Writes a line of `long` bytes to the front of `out`.
-pub(crate) fn put_line(
-    out: &mut [u8],
-    letter: u8,
-    slots: &[Slot],
-    long: usize,
-) -> Result<usize, TooShort>
-    requires span { long ≡ 1 + span_of slots.now }
-    requires wide { Wide slots.now }
-    ensures { Wrote (letter ∷ slotted slots.now) out.old out.new result }
-{
-    if out.len() < long {
-        return Err(TooShort { needed: long });
+    if let [slot, more @ ..] = slots {
+        // As long as the numbers' span, `out` has a byte for the space.
+        let (space, out) = out.split_first_mut().unwrap();
+        *space = SPACE;
+        let (field, rest) = out.split_at_mut(slot.width);
+        put_number(field, slot.number);
+        put_slots(rest, more);
     }
-    fill_line(&mut out[0..long], letter, slots);
-    Ok(long)
 }
 
-// Fills `out` with a line and its newline.
-pub(crate) fn fill_ended(out: &mut [u8], letter: u8, slots: &[Slot])
-    requires span { length out.old ≡ 2 + span_of slots.now }
-    requires wide { Wide slots.now }
-    ensures { out.new ≡ (letter ∷ slotted slots.now) ++ 10 ∷ [] }
-{
-    let end = out.len() - 1;
-    out[end] = NEWLINE;
-    fill_line(&mut out[0..end], letter, slots);
+impl Written<'_> {
+    // Fills `out` with the line.
+    fn fill(&self, out: &mut [u8])
+        requires { length out.old ≡ self.now.len }
+        ensures { out.new ≡ self.now.letter ∷ slotted self.now.slots.now }
+    {
+        // As long as a line, `out` has a byte for the letter.
+        let (first, rest) = out.split_first_mut().unwrap();
+        *first = self.letter;
+        put_slots(rest, self.slots);
+    }
+
+    // Writes the line to the front of `out`, and tells its length.
+    pub(crate) fn put(&self, out: &mut [u8]) -> Result<usize, TooShort>
+        ensures { Wrote (self.now.letter ∷ slotted self.now.slots.now) out.old out.new result }
+    {
+        let needed = self.len;
+        if out.len() < needed {
+            return Err(TooShort { needed });
+        }
+        self.fill(&mut out[..needed]);
+        Ok(needed)
+    }
+
+    // The line with its newline.
+    pub(crate) fn with_newline<const N: usize>(&self) -> [u8; N]
+        requires { N ≡ 1 + self.now.len }
+        ensures { result ≡ (self.now.letter ∷ slotted self.now.slots.now) ++ 10 ∷ [] }
+    {
+        // The line leaves the last byte as it is, a newline.
+        let mut out = [NEWLINE; N];
+        self.fill(&mut out[..self.len]);
+        out
+    }
 }

@@ -1,11 +1,12 @@
-// A fault with the line that it is in.
+//! A fault with the line that it is in.
 ghost use Rattle.std.specs.Prelude.{◌<◌};
 ghost use Rattle.casefile.specs.Faults.{report_of};
 
 use super::fault::TextFault;
 
-// Why a text is refused, and in which line; 0 is the text as a whole. Line and column fit a printed fault line.
-#[derive(Clone, Copy)]
+/// Why a text is refused, and in which line; 0 is the text as a whole, as the fault line prints it.
+// Line and column fit a printed fault line.
+#[derive(Clone, Copy, Debug, PartialEq, Eq, Hash)]
 pub struct Refusal {
     pub line: usize,
     pub fault: TextFault,

@@ -1,6 +1,7 @@
-// A text cut into lines, and checked line by line.
-ghost use Rattle.std.specs.Prelude.{◌≡◌, ◌+◌, ◌<◌, ◌≤◌, [], length, Result, MatchOption};
-ghost use Rattle.casefile.specs.Texts.{limit, OneLine, FirstLine, FirstReads, Holds, Adds, Checked};
+//! A text cut into lines, and checked line by line.
+ghost use Rattle.std.specs.Prelude.{◌≡◌, ◌+◌, ◌<◌, ◌≤◌, [], ◌∷◌, ◌++◌, length, Result, MatchOption, MatchResult};
+ghost use Rattle.casefile.specs.Records.{line_of};
+ghost use Rattle.casefile.specs.Texts.{limit, OneLine, FirstLine, FirstFault, Holds, Adds, Checked};
 
 use super::fault::TextFault;
 use super::layout::{LIMIT, NEWLINE};
@@ -9,6 +10,7 @@ use super::refusal::Refusal;
 use super::summary::Summary;
 
 impl Summary {
+    // No `Default`: a derived one is refused beside ghost fields, and one by hand would be open to callers.
     fn new() -> Summary
         ensures { Holds [] result }
     {
@@ -41,27 +43,24 @@ impl Summary {
     }
 }
 
-// The first line of a text, and what follows the newline that ends it.
+/// The first line of a text, and what follows the newline that ends it.
 pub fn cut_line(text: &[u8]) -> Option<(&[u8], &[u8])>
     ensures { MatchOption result (OneLine text.now) (λ p. FirstLine text.now p.0.now p.1.now) }
 {
-    for (i, byte) in text.iter().enumerate() {
-        if *byte == NEWLINE {
-            return Some((&text[0..i], &text[i + 1..]));
-        }
-    }
-    None
+    let end = text.iter().position(|byte| *byte == NEWLINE)?;
+    Some((&text[..end], &text[end + 1..]))
 }
 
-// What the first line of a text says, with the bytes that the line and its newline take, or the line's fault.
-pub fn first_record(text: &[u8]) -> Result<(Record, usize), TextFault>
-    ensures { FirstReads text.now result }
+/// What the first line of a text says, and what follows its newline, or the line's fault.
+pub fn first_record(text: &[u8]) -> Result<(Record, &[u8]), TextFault>
+    ensures { MatchResult result
+        (λ p. text.now ≡ line_of p.0 ++ 10 ∷ p.1.now)
+        (FirstFault text.now) }
 {
-    let Some((line, _)) = cut_line(text) else {
+    let Some((line, rest)) = cut_line(text) else {
         return Err(TextFault::NoNewline);
     };
-    let said = read_line(line)?;
-    Ok((said, line.len() + 1))
+    Ok((read_line(line)?, rest))
 }
 
 // The counts of a text that is not too long, or its first fault and the line that has it.
@@ -73,11 +72,11 @@ fn check_lines(text: &[u8]) -> Result<Summary, Refusal>
     let mut rest = text;
     while !rest.is_empty() {
         match first_record(rest) {
-            Ok(first) => {
-                let (said, used) = first;
+            Ok((said, after)) => {
                 held.count(said);
-                rest = &rest[used..];
+                rest = after;
             }
+            // Tried with `map_err`: its closure has to ask for the refusal's bounds itself, in more words than this arm.
             Err(fault) => {
                 let line = held.lines() + 1;
                 return Err(Refusal { line, fault });
@@ -87,14 +86,16 @@ fn check_lines(text: &[u8]) -> Result<Summary, Refusal>
     Ok(held)
 }
 
-// What a text holds, or its first fault and the line that has it.
+/// What a text holds, or its first fault and the line that has it.
 pub fn check_text(text: &[u8]) -> Result<Summary, Refusal>
     ensures answer { Checked text.now result }
     ensures only { (q : Result Summary Refusal) → Checked text.now q → result ≡ q }
 {
     if text.len() > LIMIT {
-        let fault = TextFault::TooLong;
-        return Err(Refusal { line: 0, fault });
+        return Err(Refusal {
+            line: 0,
+            fault: TextFault::TooLong,
+        });
     }
     check_lines(text)
 }

@@ -1,20 +1,25 @@
-// What is written: a record's line, and the lines that the program prints.
-ghost use Rattle.std.specs.Prelude.{◌≡◌, [], ◌∷◌, ◌++◌};
-ghost use Rattle.casefile.specs.Printed.{refusal_line, line_of_counts, summary_line};
+//! What is written: a record's line, and the lines that the program prints.
+ghost use Rattle.std.specs.Prelude.{◌≡◌, ◌<◌, [], ◌∷◌, ◌++◌};
+ghost use Rattle.casefile.specs.Fields.{field_of};
+ghost use Rattle.casefile.specs.Layout.{byte_of};
+ghost use Rattle.casefile.specs.Printed.{refusal_line, summary_line};
 ghost use Rattle.casefile.specs.Put.{Wrote};
-ghost use Rattle.casefile.specs.Records.{line_of};
+ghost use Rattle.casefile.specs.Records.{line_of, spaced};
 
 use super::layout::{
-    COUNT_WIDTH, COUNTS, COUNTS_LENGTH, FAULT, FAULT_LENGTH, Letter, MARK_LENGTH, TERM_LENGTH,
+    COLUMN_WIDTH, COUNT_WIDTH, COUNTS, COUNTS_LENGTH, FAULT, FAULT_LENGTH, LAYER_WIDTH, Letter,
+    MARK_LENGTH, QUESTION_WIDTH, ROW_WIDTH, TERM_LENGTH,
 };
 use super::line::Record;
 use super::number::Number;
-use super::put::{TooShort, fill_ended, put_line};
+use super::put::{TooShort, Written};
 use super::refusal::Refusal;
+use super::slot::Slot;
 use super::summary::Summary;
 
 impl Record {
-    // Writes the record's one line to the front of `out`, without a newline, and tells its length.
+    /// Writes the record's one line to the front of `out`, without a newline, and tells its length.
+    // Into lent bytes, and no `Vec`: nothing here asks for memory.
     pub fn line_of(&self, out: &mut [u8]) -> Result<usize, TooShort>
         ensures { Wrote (line_of self.now) out.old out.new result }
     {
@@ -25,78 +30,97 @@ impl Record {
                 left,
                 right,
             } => {
-                let slots = [row.slot(), kind.slot(), left.slot(), right.slot()];
-                put_line(out, Letter::Term.byte(), &slots, TERM_LENGTH)
+                let slots = [
+                    Slot::from(*row),
+                    Slot::from(*kind),
+                    Slot::from(*left),
+                    Slot::from(*right),
+                ];
+                Written {
+                    letter: u8::from(Letter::Term),
+                    slots: &slots,
+                    len: TERM_LENGTH,
+                }
+                .put(out)
             }
-            Record::Given { row } => put_line(
-                out,
-                Letter::Given.byte(),
-                &[row.slot()],
-                MARK_LENGTH,
-            ),
-            Record::Ask { row } => put_line(out, Letter::Ask.byte(), &[row.slot()], MARK_LENGTH),
-            Record::Show { row } => put_line(out, Letter::Show.byte(), &[row.slot()], MARK_LENGTH),
+            Record::Given { row } => put_row(out, Letter::Given, *row),
+            Record::Ask { row } => put_row(out, Letter::Ask, *row),
+            Record::Show { row } => put_row(out, Letter::Show, *row),
         }
     }
 }
 
+// Writes the line of a letter and a row to the front of `out`.
+fn put_row(out: &mut [u8], letter: Letter, row: Number<ROW_WIDTH>) -> Result<usize, TooShort>
+    ensures { Wrote (byte_of letter ∷ spaced (field_of 4 row.value ∷ [])) out.old out.new result }
+{
+    Written {
+        letter: u8::from(letter),
+        slots: &[Slot::from(row)],
+        len: MARK_LENGTH,
+    }
+    .put(out)
+}
+
 impl Refusal {
-    // The fault line, with its newline.
+    /// The fault line, with its newline.
+    // An array, and no `Display` or `Vec`: printed lines have a fixed length, are made without memory, and are only moved.
     pub fn printed(&self) -> [u8; FAULT_LENGTH]
         ensures { result ≡ refusal_line self.now ++ 10 ∷ [] }
     {
         let report = self.fault.report();
-        let line = Number::<COUNT_WIDTH> {
-            value: self.line as u32,
-        };
-        let column = Number::<2> {
+        let line = count_number(self.line);
+        let column = Number::<COLUMN_WIDTH> {
             value: report.column as u32,
         };
-        let layer = Number::<1> {
+        let layer = Number::<LAYER_WIDTH> {
             value: u32::from(report.layer),
         };
-        let number = Number::<2> {
+        let number = Number::<QUESTION_WIDTH> {
             value: u32::from(report.number),
         };
-        let slots = [line.slot(), column.slot(), layer.slot(), number.slot()];
-        let mut out = [0; FAULT_LENGTH];
-        fill_ended(&mut out, FAULT, &slots);
-        out
+        let slots = [
+            Slot::from(line),
+            Slot::from(column),
+            Slot::from(layer),
+            Slot::from(number),
+        ];
+        Written {
+            letter: FAULT,
+            slots: &slots,
+            len: FAULT_LENGTH - 1,
+        }
+        .with_newline()
     }
 }
 
-// The counts of lines of each letter, with a newline.
-fn counts_line(
-    terms: Number<COUNT_WIDTH>,
-    given: Number<COUNT_WIDTH>,
-    asks: Number<COUNT_WIDTH>,
-    shows: Number<COUNT_WIDTH>,
-) -> [u8; COUNTS_LENGTH]
-    ensures { result ≡ line_of_counts terms.value given.value asks.value shows.value ++ 10 ∷ [] }
+// A count of lines as a number that fits its columns.
+fn count_number(lines: usize) -> Number<COUNT_WIDTH>
+    requires { lines < 100000 }
+    ensures { result.value ≡ lines }
 {
-    let slots = [terms.slot(), given.slot(), asks.slot(), shows.slot()];
-    let mut out = [0; COUNTS_LENGTH];
-    fill_ended(&mut out, COUNTS, &slots);
-    out
+    Number {
+        value: lines as u32,
+    }
 }
 
 impl Summary {
-    // The summary line, with its newline.
+    /// The summary line, with its newline.
+    // An array, and no `Display` or `Vec`: printed lines have a fixed length, are made without memory, and are only moved.
     pub fn printed(&self) -> [u8; COUNTS_LENGTH]
         ensures { result ≡ summary_line self.now ++ 10 ∷ [] }
     {
-        let terms = Number {
-            value: self.terms as u32,
-        };
-        let given = Number {
-            value: self.given as u32,
-        };
-        let asks = Number {
-            value: self.asks as u32,
-        };
-        let shows = Number {
-            value: self.shows as u32,
-        };
-        counts_line(terms, given, asks, shows)
+        let slots = [
+            Slot::from(count_number(self.terms)),
+            Slot::from(count_number(self.given)),
+            Slot::from(count_number(self.asks)),
+            Slot::from(count_number(self.shows)),
+        ];
+        Written {
+            letter: COUNTS,
+            slots: &slots,
+            len: COUNTS_LENGTH - 1,
+        }
+        .with_newline()
     }
 }

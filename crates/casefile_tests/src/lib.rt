@@ -1,9 +1,9 @@
-// Tests of the text layer on telling lines and texts.
+//! Tests of the text layer on telling lines and texts.
 #![tactic(auto)]
 
 #[cfg(test)]
 mod tests {
-    use casefile::{LIMIT, Number, Record, TextFault, TooShort, check_text, read_line};
+    use casefile::{LIMIT, Number, Record, Report, TextFault, TooShort, check_text, read_line};
     use std::alloc::{AllocError, Global};
     use std::process::Abort;
     use std::test::Fail;
@@ -16,22 +16,20 @@ mod tests {
         column: usize,
     }
 
-    fn check_faults(rt: &impl Abort, table: &[Faulty]) -> Result<(), Fail> {
+    fn check_faults(rt: &impl Abort, table: &[Faulty]) {
         for row in table {
-            match read_line(row.line) {
-                Ok(_) => return Err(Fail::new("a faulty line is accepted")),
-                Err(fault) => {
-                    let report = TextFault::Line(fault).report();
-                    assert_eq!(rt; report.number, row.number);
-                    assert_eq!(rt; report.column, row.column);
-                }
-            }
+            let reported = read_line(row.line).map_err(|fault| TextFault::Line(fault).report());
+            let fault = Report {
+                column: row.column,
+                layer: 1,
+                number: row.number,
+            };
+            assert_eq!(rt; reported, Err(fault));
         }
-        Ok(())
     }
 
     #[test]
-    fn letters_and_lengths(rt: HostRuntime) -> Result<(), Fail> {
+    fn letters_and_lengths(rt: HostRuntime) {
         check_faults(
             &rt,
             &[
@@ -105,7 +103,7 @@ mod tests {
     }
 
     #[test]
-    fn spaces(rt: HostRuntime) -> Result<(), Fail> {
+    fn spaces(rt: HostRuntime) {
         check_faults(
             &rt,
             &[
@@ -154,7 +152,7 @@ mod tests {
     }
 
     #[test]
-    fn fields(rt: HostRuntime) -> Result<(), Fail> {
+    fn fields(rt: HostRuntime) {
         check_faults(
             &rt,
             &[
@@ -245,22 +243,18 @@ mod tests {
     // The line is read as some record, which is written as that line again, in just enough bytes and no fewer.
     fn comes_back(rt: &impl Abort, line: &[u8]) -> Result<(), Fail> {
         assert!(rt; 0 < line.len() && line.len() < 24);
-        match read_line(line) {
-            Ok(said) => {
-                let mut out = [b'#'; 24];
-                let few = line.len() - 1;
-                assert_eq!(rt;
-                    said.line_of(&mut out[0..few]),
-                    Err(TooShort { needed: line.len() })
-                );
-                assert_eq!(rt; out, [b'#'; 24]);
-                assert_eq!(rt; said.line_of(&mut out), Ok(line.len()));
-                assert_eq!(rt; &out[0..line.len()], line);
-                assert_eq!(rt; out[line.len()], b'#');
-                Ok(())
-            }
-            Err(_) => Err(Fail::new("a good line is refused")),
-        }
+        let said = read_line(line).map_err(|_| Fail::new("a good line is refused"))?;
+        let mut out = [b'#'; 24];
+        let few = line.len() - 1;
+        assert_eq!(rt;
+            said.line_of(&mut out[..few]),
+            Err(TooShort { needed: line.len() })
+        );
+        assert_eq!(rt; out, [b'#'; 24]);
+        assert_eq!(rt; said.line_of(&mut out), Ok(line.len()));
+        assert_eq!(rt; &out[..line.len()], line);
+        assert_eq!(rt; out[line.len()], b'#');
+        Ok(())
     }
 
     #[test]
@@ -315,36 +309,32 @@ mod tests {
     fn the_largest_text(rt: HostRuntime) -> Result<(), Fail> {
         let mut text = text_of(rt.alloc(), 5, 9348)?;
         assert_eq!(rt; text.len(), LIMIT);
-        match check_text(text.as_slice()) {
-            Ok(held) => assert_eq!(rt; held.printed(), *b"C     5  9348     0     0\n"),
-            Err(_) => return Err(Fail::new("the largest text is refused")),
-        }
+        counted(&rt, text.as_slice(), b"C     5  9348     0     0\n");
         text.push(b'G')?;
-        refused(&rt, text.as_slice(), b"F     0  0 1 16\n")
+        refused(&rt, text.as_slice(), b"F     0  0 1 16\n");
+        Ok(())
     }
 
-    fn refused(rt: &impl Abort, text: &[u8], printed: &[u8; 16]) -> Result<(), Fail> {
-        match check_text(text) {
-            Ok(_) => Err(Fail::new("a faulty text is accepted")),
-            Err(refusal) => {
-                assert_eq!(rt; refusal.printed(), *printed);
-                Ok(())
-            },
-        }
+    fn counted(rt: &impl Abort, text: &[u8], printed: &[u8; 26]) {
+        assert_eq!(rt; check_text(text).map(|held| held.printed()), Ok(*printed));
+    }
+
+    fn refused(rt: &impl Abort, text: &[u8], printed: &[u8; 16]) {
+        assert_eq!(rt;
+            check_text(text).map_err(|refusal| refusal.printed()),
+            Err(*printed)
+        );
     }
 
     #[test]
-    fn texts(rt: HostRuntime) -> Result<(), Fail> {
-        match check_text(b"") {
-            Ok(held) => assert_eq!(rt; held.printed(), *b"C     0     0     0     0\n"),
-            Err(_) => return Err(Fail::new("the empty text is refused")),
-        }
-        refused(&rt, b"\n", b"F     1  1 1 10\n")?;
-        refused(&rt, b"G    1", b"F     1  0 1 15\n")?;
-        refused(&rt, b"x", b"F     1  0 1 15\n")?;
-        refused(&rt, b"G    1\n\n", b"F     2  1 1 10\n")?;
-        refused(&rt, b"G    1\r\n", b"F     1  7 1 11\n")?;
-        refused(&rt, b"G    1\nT    2  0    1   01\n", b"F     2 16 1 13\n")?;
-        refused(&rt, b"G    1\nG    2\nG    3", b"F     3  0 1 15\n")
+    fn texts(rt: HostRuntime) {
+        counted(&rt, b"", b"C     0     0     0     0\n");
+        refused(&rt, b"\n", b"F     1  1 1 10\n");
+        refused(&rt, b"G    1", b"F     1  0 1 15\n");
+        refused(&rt, b"x", b"F     1  0 1 15\n");
+        refused(&rt, b"G    1\n\n", b"F     2  1 1 10\n");
+        refused(&rt, b"G    1\r\n", b"F     1  7 1 11\n");
+        refused(&rt, b"G    1\nT    2  0    1   01\n", b"F     2 16 1 13\n");
+        refused(&rt, b"G    1\nG    2\nG    3", b"F     3  0 1 15\n");
     }
 }

@@ -1,4 +1,4 @@
-// The program: reads a case file from standard input and prints what it holds, or its first fault.
+//! The program: reads a case file from standard input and prints what it holds, or its first fault.
 #![tactic(auto)]
 
 use anyhow::anyhow;

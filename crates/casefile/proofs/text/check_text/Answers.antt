@@ -1,13 +1,9 @@
-use Rattle.std.proofs.Common.{refl, rules}
-use Rattle.casefile.specs.declared.fault.TextFault.TheVariants.{TooLong}
-use Rattle.casefile.specs.Texts.{Refused}
-use Rattle.casefile.proofs.Exact.{checked_same}
+use Rattle.std.proofs.Common.{rules}
+use Rattle.casefile.proofs.Exact.{checked_only}
 use Rattle.casefile.proofs.text.check_text.Goals as goal
 
-pub returns-then-text-gt-LIMIT : goal.returns-then-text-gt-LIMIT
-returns-then-text-gt-LIMIT c =
-    let answer : Refused c.args.text.now 0 TooLong = (search rules, refl) in
-    record { answer = answer; only = λ q other. checked_same c.args.text.now _ q answer other }
+pub returns-then-text-gt-LIMIT-clause-only : goal.returns-then-text-gt-LIMIT-clause-only
+returns-then-text-gt-LIMIT-clause-only c = checked_only c.args.text.now _ (search rules)
 
-pub returns : goal.returns
-returns c = record { answer = c.check_lines.ensures; only = λ q other. checked_same c.args.text.now _ q c.check_lines.ensures other }
+pub returns-clause-only : goal.returns-clause-only
+returns-clause-only c = checked_only c.args.text.now _ c.check_lines.ensures

@@ -14,7 +14,7 @@ pub struct TooShort {
 
 // A line to be written: its letter, its numbers, and how many bytes they take.
 // The length is kept, since adding it up would need a bound on how many numbers there are.
-#[derive(Clone, Copy)]
+#[derive(Clone, Copy, Debug, PartialEq, Eq)]
 pub(crate) struct Written<'a> {
     pub(crate) letter: u8,
     pub(crate) slots: &'a [Slot],
@@ -22,7 +22,7 @@ pub(crate) struct Written<'a> {
     ghost fits: { len ≡ 1 + span_of slots.now },
 }
 
-// Fills `out` with numbers, each behind one space. By recursion, as it splits what is left of `out`.
+// Fills `out` with numbers, each behind one space. By recursion: a loop would have to say what stands before the rest.
 fn put_slots(out: &mut [u8], slots: &[Slot])
     requires { length out.old ≡ span_of slots.now }
     ensures { out.new ≡ slotted slots.now }

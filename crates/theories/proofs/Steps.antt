@@ -1,5 +1,5 @@
 -- The steps of the three theories, read off the rows of a case.
-use Rattle.std.proofs.Common.{◌≡◌, ℕ, cond, List, [], ◌∷◌, map, length, Some, None, Option, sym, refl, ap, ◌∙◌, subst, arith}
+use Rattle.std.proofs.Common.{◌≡◌, ℕ, cond, List, [], ◌∷◌, map, length, Some, None, Option, refl, ◌∙◌, subst, arith}
 use Rattle.std.specs.Option.{option_map}
 use Rattle.std.proofs.lemmas.Bool.Decides.{nat_tests}
 use Rattle.knowledge.specs.Terms.{Term, atom, one, two, kind, parts}
@@ -12,62 +12,47 @@ use Rattle.cases.specs.Case.{row_at, terms_of, term_at, row_of}
 use Rattle.cases.proofs.Numbered.{numbered_in}
 use Rattle.cases.proofs.Holds.{terms_proper}
 use Rattle.theories.specs.Answers.{owns_in, builds_in, owns_at, builds_at, by_rows, taking_rows}
-use Rattle.theories.proofs.AtRows.{no_rows, row_is, row_held, left, right, held, by_its_rows, rows_are}
-
--- the takings of the three theories as a row says them: a pair's parts, and a cipher's body beside its key
-abbrev pub plain_rows : Option Row → List (ℕ × ℕ)
-plain_rows None = []
-plain_rows (Some r) = cond (is pair r.kind) ((0, r.left) ∷ (0, r.right) ∷ []) (cond (is cipher r.kind) ((r.right, r.left) ∷ []) [])
+use Rattle.theories.proofs.AtRows.{row_is, row_held, left, right, held, by_its_rows, rows_are}
 
 -- a body beside the secret of its key, if the key's row is a public key
-abbrev pub opened_by : Option Row → ℕ → List (ℕ × ℕ)
+abbrev opened_by : Option Row → ℕ → List (ℕ × ℕ)
 opened_by None body = []
 opened_by (Some key) body = cond (is public_key key.kind) ((key.left, body) ∷ []) []
 
+-- the takings of the three theories as a row says them: a pair's parts, and a cipher's body beside its key
+abbrev pub plain_rows : Row → List (ℕ × ℕ)
+plain_rows r = cond (is pair r.kind) ((0, r.left) ∷ (0, r.right) ∷ []) (cond (is cipher r.kind) ((r.right, r.left) ∷ []) [])
+
 -- a sealed body, as the row of its key says
-abbrev pub public_key_rows : Case → Option Row → List (ℕ × ℕ)
-public_key_rows c None = []
-public_key_rows c (Some r) = cond (is sealed r.kind) (opened_by (row_at c r.right) r.left) []
+abbrev pub public_key_rows : Case → Row → List (ℕ × ℕ)
+public_key_rows c r = cond (is sealed r.kind) (opened_by (row_at c r.right) r.left) []
 
 -- the answered term beside the asked one
-abbrev pub reply_rows : Option Row → List (ℕ × ℕ)
-reply_rows None = []
-reply_rows (Some r) = cond (is reply r.kind) ((r.left, r.right) ∷ []) []
+abbrev pub reply_rows : Row → List (ℕ × ℕ)
+reply_rows r = cond (is reply r.kind) ((r.left, r.right) ∷ []) []
 
--- a row is in use or not
-by_row : (c : Case) (n : ℕ) (P : Option Row → Type 0) → (row_at c n ≡ None → P None) → ((r : Row) → row_at c n ≡ Some r → P (Some r)) → P (row_at c n)
-by_row c n P none some = by (row_at c n) refl
-  where
-    by : (o : Option Row) → row_at c n ≡ o → P o
-    by None e = none e
-    by (Some r) e = some r e
+-- what a row in use says is what is taken from its term
+module _ (c : Case) (n : ℕ) (r : Row) (e : row_at c n ≡ Some r) where
+  pub plain_read : taking_rows plain c n ≡ plain_rows r
+  plain_read = rows_are c n r e plain ∙ by_its_rows c n r e (λ t. map (by_rows c) (plain.takings t) ≡ plain_rows r)
+      (λ z. grind (arith, nat_tests)) (λ f l. grind (arith, nat_tests)) (λ f l h. let right_is = row_is c _ _ h in grind (arith, nat_tests))
 
-module _ (c : Case) (n : ℕ) where
-  -- what is read off each row in use holds of every row
-  reads : (m : Meaning) (read : Option Row → List (ℕ × ℕ)) → read None ≡ []
-      → ((r : Row) → row_at c n ≡ Some r → map (by_rows c) (m.takings (held c r)) ≡ read (Some r)) → taking_rows m c n ≡ read (row_at c n)
-  reads m read none some = by_row c n (λ o. taking_rows m c n ≡ read o) (λ e. no_rows c n e m ∙ sym none) (λ r e. rows_are c n r e m ∙ some r e)
-
-  plain_rows_lem : taking_rows plain c n ≡ plain_rows (row_at c n)
-  plain_rows_lem = reads plain plain_rows refl (λ r e. by_its_rows c n r e (λ t. map (by_rows c) (plain.takings t) ≡ plain_rows (Some r))
-      (λ z. grind (arith, nat_tests)) (λ f l. grind (arith, nat_tests)) (λ f l h. let right_is = row_is c _ _ h in grind (arith, nat_tests)))
-
-  reply_rows_lem : taking_rows replies c n ≡ reply_rows (row_at c n)
-  reply_rows_lem = reads replies reply_rows refl (λ r e. by_its_rows c n r e (λ t. map (by_rows c) (replies.takings t) ≡ reply_rows (Some r))
-      (λ z. grind (arith, nat_tests)) (λ f l. grind (arith, nat_tests)) (λ f l h. let right_is = row_is c _ _ h in grind (arith, nat_tests)))
+  pub reply_read : taking_rows replies c n ≡ reply_rows r
+  reply_read = rows_are c n r e replies ∙ by_its_rows c n r e (λ t. map (by_rows c) (replies.takings t) ≡ reply_rows r)
+      (λ z. grind (arith, nat_tests)) (λ f l. grind (arith, nat_tests)) (λ f l h. let right_is = row_is c _ _ h in grind (arith, nat_tests))
 
   -- the row of a key says whether it is a public key, and of what secret
-  key_says : (r : Row) → row_of c (left c r) ≡ r.left → (key : Row) → row_at c r.right ≡ Some key
+  key_says : row_of c (left c r) ≡ r.left → (key : Row) → row_at c r.right ≡ Some key
       → map (by_rows c) (opened (left c r) (held c key)) ≡ opened_by (Some key) r.left
-  key_says r is key at = by_its_rows c r.right key at (λ t. map (by_rows c) (opened (left c r) t) ≡ opened_by (Some key) r.left)
+  key_says is key at = by_its_rows c r.right key at (λ t. map (by_rows c) (opened (left c r) t) ≡ opened_by (Some key) r.left)
       (λ z. grind (arith, nat_tests)) (λ f l. grind (arith, nat_tests)) (λ f l h. grind (arith, nat_tests))
 
-  public_key_rows_lem : taking_rows public_keys c n ≡ public_key_rows c (row_at c n)
-  public_key_rows_lem = reads public_keys (public_key_rows c) refl (λ r e. by_its_rows c n r e (λ t. map (by_rows c) (public_keys.takings t) ≡ public_key_rows c (Some r))
+  pub public_key_read : taking_rows public_keys c n ≡ public_key_rows c r
+  public_key_read = rows_are c n r e public_keys ∙ by_its_rows c n r e (λ t. map (by_rows c) (public_keys.takings t) ≡ public_key_rows c r)
       (λ z. grind (arith, nat_tests)) (λ f l. grind (arith, nat_tests))
       (λ f l h. let (key, at, says) = row_held c r.right (right c r) h in
-      let opens = key_says r l key at in
-      subst (λ t. map (by_rows c) (public_keys.takings (two r.kind (left c r) t)) ≡ public_key_rows c (Some r)) says (grind (arith, nat_tests))))
+      let opens = key_says l key at in
+      subst (λ t. map (by_rows c) (public_keys.takings (two r.kind (left c r) t)) ≡ public_key_rows c r) says (grind (arith, nat_tests)))
 
 -- a theory that can build, among terms with the parts of their kind, just what it owns
 module _ (m : Meaning) (none : (label : ℕ) → m.builds (atom label) ≡ m.owns 0)
@@ -90,14 +75,3 @@ plain_builds = builds_owned plain (λ label. refl) (λ k t e. grind (arith, nat_
 
 pub public_key_builds : (c : Case) (n : ℕ) → builds_at public_keys c n ≡ owns_at public_keys c n
 public_key_builds = builds_owned public_keys (λ label. refl) (λ k t e. grind (arith, nat_tests)) (λ k t u e. grind (arith, nat_tests))
-
--- the same of a row that says this
-module _ (c : Case) (n : ℕ) (r : Row) (e : row_at c n ≡ Some r) where
-  pub plain_read : taking_rows plain c n ≡ plain_rows (Some r)
-  plain_read = plain_rows_lem c n ∙ ap plain_rows e
-
-  pub public_key_read : taking_rows public_keys c n ≡ public_key_rows c (Some r)
-  public_key_read = public_key_rows_lem c n ∙ ap (public_key_rows c) e
-
-  pub reply_read : taking_rows replies c n ≡ reply_rows (Some r)
-  reply_read = reply_rows_lem c n ∙ ap reply_rows e

@@ -12,9 +12,9 @@ fn next(above: u32, byte: u8) -> Option<u32>
         ((n : ℕ) → n / 10 ≡ above → mark n ≢ byte)
         (λ n. (n / 10 ≡ above) × (mark n ≡ byte)) }
 {
-    match byte {
-        b' ' if above == 0 => Some(0),
-        b'0' if above == 0 => None,
+    match (above, byte) {
+        (0, b' ') => Some(0),
+        (0, b'0') => None,
         _ => last(above, byte),
     }
 }

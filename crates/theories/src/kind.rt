@@ -21,6 +21,8 @@ impl From<u8> for Kind {
 
     ghost from_gives = { Reads };
 
+    // Always inlined, so that a match on the kind compiles to a test of the number, and to no look into a table.
+    #[inline(always)]
     fn from(number: u8) -> Kind {
         match number {
             1 => Kind::Pair,

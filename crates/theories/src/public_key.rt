@@ -29,10 +29,11 @@ impl ByRow for PublicKey {
     }
 
     fn takings_of(&self, case: &Case, row: Row) -> Takings {
-        match (Kind::from(row.kind), case.row(row.right)) {
-            (Kind::Sealed, Some(key)) if matches!(Kind::from(key.kind), Kind::PublicKey) => {
-                Takings::One((key.left, row.left))
-            }
+        let (Kind::Sealed, Some(key)) = (Kind::from(row.kind), case.row(row.right)) else {
+            return Takings::Zero;
+        };
+        match Kind::from(key.kind) {
+            Kind::PublicKey => Takings::One((key.left, row.left)),
             _ => Takings::Zero,
         }
     }

@@ -9,8 +9,8 @@ returns-in_default c = λ n e. let read = public_key_read c.args.case.now n _ e 
 pub returns-in_default-2 : goal.returns-in_default-2
 returns-in_default-2 c = λ n e. let read = public_key_read c.args.case.now n _ e in grind (arith, nat_tests)
 
-pub returns-in-Sealed-Some : goal.returns-in-Sealed-Some
-returns-in-Sealed-Some c = λ n e. let read = public_key_read c.args.case.now n _ e in grind (arith, nat_tests)
+pub returns-in-PublicKey : goal.returns-in-PublicKey
+returns-in-PublicKey c = λ n e. let read = public_key_read c.args.case.now n _ e in grind (arith, nat_tests)
 
-pub returns-in_default-3 : goal.returns-in_default-3
-returns-in_default-3 c = λ n e. let read = public_key_read c.args.case.now n _ e in grind (arith, nat_tests)
+pub returns-in_default-from : goal.returns-in_default-from
+returns-in_default-from c = λ n e. let read = public_key_read c.args.case.now n _ e in grind (arith, nat_tests)
